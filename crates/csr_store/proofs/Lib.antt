@@ -1,0 +1,6 @@
+pub mod ListLemmas
+pub mod OrderLemmas
+pub mod RowLaws
+pub mod SearchLemmas
+pub mod FillLemmas
+pub mod StoreLemmas

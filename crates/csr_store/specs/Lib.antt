@@ -1,0 +1,4 @@
+pub mod OutEdges
+pub mod RowGraph
+pub mod Shelves
+pub mod Stored
