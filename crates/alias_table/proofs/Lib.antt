@@ -1,0 +1,7 @@
+mod SumLemmas
+mod FrontLemmas
+mod WidthLemmas
+mod FillLemmas
+mod TableLemmas
+mod InverseLemmas
+mod ShareLemmas
