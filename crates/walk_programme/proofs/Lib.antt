@@ -1,0 +1,5 @@
+mod NumberLemmas
+mod DivisorLemmas
+mod FaultLemmas
+mod KeyLemmas
+mod TypeLemmas
