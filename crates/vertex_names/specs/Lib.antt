@@ -1,0 +1,4 @@
+pub mod Ranks
+pub mod Marks
+pub mod NameIndex
+pub mod Known
