@@ -4,4 +4,3 @@ pub mod RowLaws
 pub mod SearchLemmas
 pub mod FillLemmas
 pub mod StoreLemmas
-pub mod WalkLaws

@@ -1,6 +1,6 @@
--- Ranks keep the order of names, so that a walk by ranks is a walk by names.
+-- Ranks keep the order of names, and the name at the place of a rank is the name.
 use Rattle.std.proofs.Common.{◌≡◌, ℕ, zero, suc, ◌+◌, ◌^◌, ◌<◌, ◌≤◌, ◌||◌, Bool, true, false, cond, List, [], ◌∷◌, ◌++◌, length, map, take, drop, get_or, refl, arith, ap, ◌∙◌}
-use Rattle.std.specs.Prelude.{nat_lt, ◌==◌, slice_index, All, IsTrue, Option, Some, None, IfSome}
+use Rattle.std.specs.Prelude.{nat_lt, ◌==◌, slice_index, All, IsTrue}
 use Rattle.std.specs.List.Sorted.{IsStrictlyIncreasing}
 use Rattle.std.proofs.lemmas.Bool.{false≢true, eq-eqb, ne_eqb, eqb-true, eqb-false}
 use Rattle.std.proofs.lemmas.Bool.Decides.{nat_tests}
@@ -9,11 +9,7 @@ use Rattle.std.proofs.lemmas.List.{take_all, drop_all, append-nil, get_or_defaul
 use Rattle.std.proofs.lemmas.List.Folds.{list_any_at, Any-from_list_any}
 use Rattle.std.proofs.lemmas.List.Sums.{count_by-le-length}
 use Rattle.walk_model.specs.declared.graph.Edge.{Edge}
-use Rattle.walk_model.specs.declared.plans.Plan.{Plan}
-use Rattle.walk_model.specs.declared.states.State.{State}
-use Rattle.walk_model.specs.Words.{word}
-use Rattle.walk_model.specs.Walk.{first_state, next_state, entry_and, entries_after, walk}
-use Rattle.walk_model.proofs.RenameLemmas.{Keeps, EndsIn, StandsIn, next_state-in, walk-renamed}
+use Rattle.walk_model.proofs.RenameLemmas.{Keeps, EndsIn}
 use Rattle.vertex_names.proofs.IndexLemmas.{rank-at}
 use Rattle.walk_model.specs.Graph.{vertices_of}
 use Rattle.vertex_names.specs.Ranks.{is_name, rank_in, ranked, AreNamed}
@@ -154,42 +150,3 @@ name-at_rank names x up is =
     let read : slice_index names found.0 ≡ x =
     get_or_default names found.0 0 found.1 found.2 ∙ found.3 ∙ eqb-true found.1 x found.4 in
     ap (slice_index names) (rank-at names found.0 x up found.2 read) ∙ read
-
--- numbers that are all names
-abbrev pub AllNames : List ℕ → List ℕ → Type 0
-AllNames names [] = Unit {0}
-AllNames names (x ∷ xs) = IsTrue (is_name names x) × AllNames names xs
-
--- their ranks, named again, are they
-pub names-of_ranks : (names xs : List ℕ) → IsStrictlyIncreasing names → AllNames names xs
-    → map (slice_index names) (map (rank_in names) xs) ≡ xs
-names-of_ranks names [] up all = refl
-names-of_ranks names (x ∷ xs) up all =
-    rw (name-at_rank names x up all.0, names-of_ranks names xs up all.1) refl
-
--- an entry and those after it
-entry_and-named : (names : List ℕ) (o : Option State) (later : State → List ℕ) → IfSome o (StandsIn (λ x. IsTrue (is_name names x)))
-    → ((t : State) → StandsIn (λ x. IsTrue (is_name names x)) t → AllNames names (later t)) → AllNames names (entry_and o later)
-entry_and-named names None later h all = tt
-entry_and-named names (Some t) later h all = (h.at, all t h)
-
--- a walk from a vertex stays among the vertices
-entries_after-named : (names : List ℕ) (n : ℕ) (es : List Edge) (plan : Plan) (words : ℕ → ℕ) (start : ℕ) (s : State)
-    → AreNamed names es → IsTrue (is_name names start) → StandsIn (λ x. IsTrue (is_name names x)) s
-    → AllNames names (entries_after n es plan words start s)
-unfolding entries_after
-entries_after-named names zero es plan words start s h hb hs = tt
-entries_after-named names (suc n) es plan words start s h hb hs =
-    entry_and-named names (next_state es plan words start s) (entries_after n es plan words start)
-    (next_state-in (λ x. IsTrue (is_name names x)) es plan words start s (ends-in names es h) hb hs)
-    (λ t ht. entries_after-named names n es plan words start t h hb ht)
-
--- a walk by ranks, with each rank named again, is the walk by names
-pub walk-ranked : (names : List ℕ) (es : List Edge) (plan : Plan) (seed stream start most : ℕ) → IsStrictlyIncreasing names
-    → AreNamed names es → IsTrue (is_name names start)
-    → map (slice_index names) (walk (map (ranked names) es) plan seed stream (rank_in names start) most) ≡ walk es plan seed stream start most
-walk-ranked names es plan seed stream start most up h hb =
-    ap (map (slice_index names))
-    (walk-renamed (rank_in names) (λ x. IsTrue (is_name names x)) (ranks-keep names) es plan seed stream start most (ends-in names es h) hb)
-    ∙ names-of_ranks names (walk es plan seed stream start most) up
-    (hb, entries_after-named names most es plan (word seed stream) start (first_state start) h hb (record { at = hb; before = tt }))

@@ -27,6 +27,7 @@ pub use faults::{
 };
 pub use graph::Edge;
 pub use messages::{Ask, Ends, Found, Letter, Question, Reply, What};
+pub use numbers::place_above;
 pub use plans::Plan;
 pub use programme::{Fraction, Kinds, Rule, StartRule};
 pub use results::{Finished, Path};

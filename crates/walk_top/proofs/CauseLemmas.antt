@@ -1,15 +1,15 @@
 -- What the cause of a fault says of a call.
-use Rattle.std.proofs.Common.{◌≡◌, ◌≤◌, ◌⊎◌, ℕ, List, Option, Some, None, refl, ap, sym, subst, inl, inr, arith}
+use Rattle.std.proofs.Common.{◌≡◌, ◌≤◌, ◌⊎◌, ℕ, List, Option, None, refl, ap, sym, subst, inl, inr, arith}
 use Rattle.walk_io.specs.Causes.{Rose}
 use Rattle.walk_model.specs.declared.faults.WalkFault.{WalkFault}
 use Rattle.walk_model.specs.declared.faults.WalkFault.TheVariants as fault
 use Rattle.walk_model.specs.Status.{status_of}
 use Rattle.walk_top.specs.Jobs.{job}
-use Rattle.walk_top.specs.Gains.{GainsFront}
+use Rattle.path_writer.specs.Gains.{GainsFront}
 use Rattle.walk_top.specs.Outputs.{output}
 use Rattle.walk_top.specs.Verdicts.{Finding, Found, Refused, Lacks, Untold, Task, verdict, task_of, job_found, and_then, MayBe, MayRefuse}
-use Rattle.walk_top.specs.Outcomes.{IfAccepted, IfRefused, IfLacking, MayEndWell, IsRefusedWith, Call, Cause, OfWords, OfFiles, OfReading, OfWriting, OfMemory, cause_of, CameAbout, IsCaused, FailsToRead, RoseNamed, BeginsText, LeavesSink}
-use Rattle.walk_top.proofs.GainLemmas.{front-nothing}
+use Rattle.walk_top.specs.Outcomes.{IfAccepted, IfRefused, IfLacking, MayEndWell, IsRefusedWith, Call, Cause, OfWords, OfFiles, OfReading, OfWriting, OfMemory, cause_of, CameAbout, FailsToRead, RoseNamed, BeginsText, LeavesSink}
+use Rattle.path_writer.proofs.GainLemmas.{front-nothing}
 
 -- the statuses that a cause can have
 abbrev pub IsStatusOf : Cause → ℕ → Type 0

@@ -1,13 +1,13 @@
 -- What is found step by step.
-use Rattle.std.proofs.Common.{◌≡◌, ℕ, List, Option, Some, None, refl, sym, subst}
-use Rattle.std.specs.Prelude.{Result, Ok, Err}
+use Rattle.std.proofs.Common.{◌≡◌, ℕ, Bool, List, Option, Some, refl, sym, subst}
+use Rattle.std.specs.Prelude.{Ok, Err}
 use Rattle.walk_io.specs.Files.{Told, Unknown, Missing, Holds, IfRead}
 use Rattle.walk_model.specs.declared.graph.Edge.{Edge}
 use Rattle.walk_model.specs.declared.faults.LineFault.{LineFault}
 use Rattle.walk_model.specs.declared.faults.WalkFault.{WalkFault}
 use Rattle.edge_reader.specs.GraphFile.{graph_of}
 use Rattle.walk_top.specs.Jobs.{Job}
-use Rattle.walk_top.specs.Verdicts.{Finding, Found, Refused, Lacks, Untold, and_then, job_found, contents_found, graph_found, most_graph_bytes, fault_of, MayBe, MayRefuse}
+use Rattle.walk_top.specs.Verdicts.{Finding, Found, Refused, Lacks, Untold, and_then, job_found, contents_found, graph_found, most_limits, fault_of, MayBe, MayRefuse}
 
 -- what may be found first, and then from there
 pub and_then-maybe : {A B : Type 0} (m : Finding A) (later : A → Finding B) (x : A) (y : B) → MayBe m x
@@ -38,15 +38,15 @@ pub job-found : (o : Option Job) (j : Job) → o ≡ Some j → MayBe (job_found
 job-found o j is = subst (λ w. MayBe (job_found w) j) (sym is) refl
 
 -- the graph of a file that was read
-pub graph-may_be : (name : List ℕ) (t : Told) (es : List Edge) → IfRead t (λ all. graph_of most_graph_bytes all ≡ Ok es)
-    → MayBe (and_then (contents_found name t) (λ bytes. graph_found (graph_of most_graph_bytes bytes))) es
-graph-may_be name Unknown es read = tt
-graph-may_be name Missing es read = absurd read
-graph-may_be name (Holds all) es read = subst (λ r. MayBe (graph_found r) es) (sym read) refl
+pub graph-may_be : (u : Bool) (name : List ℕ) (t : Told) (es : List Edge) → IfRead t (λ all. graph_of u most_limits all ≡ Ok es)
+    → MayBe (and_then (contents_found name t) (λ bytes. graph_found (graph_of u most_limits bytes))) es
+graph-may_be u name Unknown es read = tt
+graph-may_be u name Missing es read = absurd read
+graph-may_be u name (Holds all) es read = subst (λ r. MayBe (graph_found r) es) (sym read) refl
 
 -- and why it is refused
-pub graph-refused : (name : List ℕ) (t : Told) (f : LineFault) → IfRead t (λ all. graph_of most_graph_bytes all ≡ Err f)
-    → MayRefuse (and_then (contents_found name t) (λ bytes. graph_found (graph_of most_graph_bytes bytes))) (fault_of f)
-graph-refused name Unknown f read = tt
-graph-refused name Missing f read = absurd read
-graph-refused name (Holds all) f read = subst (λ r. MayRefuse (graph_found r) (fault_of f)) (sym read) refl
+pub graph-refused : (u : Bool) (name : List ℕ) (t : Told) (f : LineFault) → IfRead t (λ all. graph_of u most_limits all ≡ Err f)
+    → MayRefuse (and_then (contents_found name t) (λ bytes. graph_found (graph_of u most_limits bytes))) (fault_of f)
+graph-refused u name Unknown f read = tt
+graph-refused u name Missing f read = absurd read
+graph-refused u name (Holds all) f read = subst (λ r. MayRefuse (graph_found r) (fault_of f)) (sym read) refl

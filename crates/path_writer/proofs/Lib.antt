@@ -1,0 +1,3 @@
+pub mod GainLemmas
+pub mod WaitingLemmas
+pub mod TextLemmas

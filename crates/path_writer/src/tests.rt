@@ -1,0 +1,129 @@
+use super::*;
+use std::alloc::Global;
+use std::test::Fail;
+use vertex_names::Names;
+use walk_io::{Failed, MemorySink, SureSink};
+use walk_model::{Edge, Finished};
+
+ghost use Rattle.std.specs.Prelude.{◌≡◌, ◌<◌, ℕ, true, length, All};
+ghost use Rattle.path_writer.specs.Named.{AreNamed};
+
+/// The names of two vertices.
+fn names_of_two(alloc: Global, low: u32, high: u32) -> Result<Names, Fail> {
+    let edge = Edge {
+        src: high,
+        dst: low,
+        weight: 1,
+        kind: 0,
+    };
+    let names = Names::of(alloc, &[edge])?;
+    Ok(names)
+}
+
+/// Walks by ranks.
+fn walks_of(alloc: Global, rows: &[&[u32]]) -> Result<Finished, Fail> {
+    let mut walks = Vec::new(alloc);
+    for row in rows {
+        walks.push(Vec::from_slice(alloc, row)?)?;
+    }
+    Ok(Finished::of(walks))
+}
+
+/// Whether each rank of a walk is below a number.
+fn is_below(walk: &[u32], count: u32) -> bool
+    ensures { result ≡ true → All (λ r. r < count) walk.now }
+{
+    for rank in walk {
+        if *rank >= count {
+            return false;
+        }
+    }
+    true
+}
+
+/// Whether each rank of each walk has a name.
+fn are_named(names: &Names, finished: &Finished) -> bool
+    ensures { result ≡ true → AreNamed names.now finished.now }
+{
+    let count = names.len();
+    for i in 0..finished.count() {
+        if !is_below(finished.walk(i), count) {
+            return false;
+        }
+    }
+    true
+}
+
+/// What is written of walks by ranks 0 and 1 with these two names, and whether all of it was.
+fn written(
+    alloc: Global,
+    ids: (u32, u32),
+    rows: &[&[u32]],
+    mut sink: MemorySink,
+) -> Result<(bool, Vec<u8>), Fail> {
+    let names = names_of_two(alloc, ids.0, ids.1)?;
+    let finished = walks_of(alloc, rows)?;
+    if !are_named(&names, &finished) {
+        return Err(Fail::new("a rank without a name"));
+    }
+    let whole = write_walks(&finished, &names, &mut sink).is_ok();
+    let MemorySink { bytes, .. } = sink;
+    Ok((whole, bytes))
+}
+
+#[test]
+fn lines_of_walks(rt: HostRuntime) -> Result<(), Fail> {
+    let alloc = rt.alloc();
+    let empty: [&[u32]; 0] = [];
+    for (ids, rows, text) in [
+        ((5, 9), [[0, 1].as_slice(), [1].as_slice()].as_slice(), b"5 9\n9\n".as_slice()),
+        ((5, 9), empty.as_slice(), b"".as_slice()),
+        ((5, 9), [[].as_slice()].as_slice(), b"\n".as_slice()),
+        (
+            (0, u32::MAX),
+            [[1, 0].as_slice(), [].as_slice(), [0].as_slice()].as_slice(),
+            b"4294967295 0\n\n0\n".as_slice(),
+        ),
+    ] {
+        let sink = MemorySink::new(alloc, 64, vec![in alloc]?, 64)?;
+        let (whole, bytes) = written(alloc, ids, rows, sink)?;
+        assert!(rt; whole);
+        assert_eq!(rt; bytes.as_slice(), text);
+    }
+    Ok(())
+}
+
+#[test]
+fn many_blocks(rt: HostRuntime) -> Result<(), Fail> {
+    let alloc = rt.alloc();
+    let walk = vec![in alloc; 1; 3_000]?;
+    let rows = [walk.as_slice(), [0].as_slice()];
+    let sink = MemorySink::new(alloc, 40_000, vec![in alloc]?, 7_000)?;
+    let (whole, bytes) = written(alloc, (7, u32::MAX), &rows, sink)?;
+    assert!(rt; whole);
+    assert_eq!(rt; bytes.len(), 33_002);
+    for (i, b) in bytes.iter().enumerate() {
+        let wanted = match i {
+            32_999 | 33_001 => b'\n',
+            33_000 => b'7',
+            _ => b"4294967295 "[i % 11],
+        };
+        assert_eq!(rt; *b, wanted, "at {i}");
+    }
+    Ok(())
+}
+
+#[test]
+fn a_sink_that_fails(rt: HostRuntime) -> Result<(), Fail> {
+    let alloc = rt.alloc();
+    let rows = [[0, 1].as_slice(), [1].as_slice()];
+    let sink = MemorySink::new(alloc, 64, vec![in alloc; 2]?, 3)?;
+    let (whole, bytes) = written(alloc, (5, 9), &rows, sink)?;
+    assert!(rt; !whole);
+    assert_eq!(rt; bytes.as_slice(), b"5 9".as_slice());
+    let mut sink = MemorySink::new(alloc, 4, vec![in alloc]?, 3)?;
+    assert_eq!(rt; write_all(&mut sink, b"5 9\n"), Ok(()));
+    assert_eq!(rt; write_all(&mut sink, b"9"), Err(Failed));
+    assert_eq!(rt; write_all(&mut SureSink, b"9"), Ok(()));
+    Ok(())
+}

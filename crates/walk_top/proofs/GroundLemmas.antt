@@ -1,0 +1,77 @@
+-- Tables, row by row.
+use Rattle.std.proofs.Common.{◌≡◌, ◌<◌, ◌≤◌, ◌+◌, ◌*◌, ◌^◌, ℕ, zero, suc, Bool, true, false, List, [], ◌∷◌, ◌++◌, length, map, sum, get_or, Option, Some, None, refl, ap, sym, subst, ◌∙◌, arith}
+use Rattle.std.specs.Prelude.{All, unwrap_or, if◌then◌else◌}
+use Rattle.std.proofs.lemmas.List.Elements.{All-map}
+use Rattle.walk_model.specs.declared.graph.Edge.{Edge}
+use Rattle.walk_model.specs.declared.programme.Rule.{Rule}
+use Rattle.walk_model.specs.declared.programme.Rule.TheVariants.{Plain}
+use Rattle.walk_model.specs.Factor.{greatest_factor}
+use Rattle.walk_model.specs.Graph.{weights_of, static_weight}
+use Rattle.walk_model.proofs.BoardLemmas.{length-weights_of}
+use Rattle.std.proofs.lemmas.List.{length-map}
+use Rattle.csr_store.specs.declared.out_edge.OutEdge.{OutEdge}
+use Rattle.csr_store.specs.OutEdges.{out_edge}
+use Rattle.csr_store.specs.Shelves.{IsOutEdge}
+use Rattle.walk_top.specs.Grounds.{table_of}
+use Rattle.walk_top.specs.OutWeights.{out_weight}
+
+-- the weights of a stored row are those of the row
+pub out-weights : (weighted : Bool) (row : List Edge) → map (out_weight weighted) (map out_edge row) ≡ weights_of weighted row
+unfolding weights_of
+out-weights weighted [] = refl
+out-weights weighted (e ∷ es) = ap (λ l. static_weight weighted e ∷ l) (out-weights weighted es)
+
+weight-range : (weighted : Bool) (n : ℕ) (o : OutEdge) → IsOutEdge n o
+    → (1 ≤ out_weight weighted o) × (out_weight weighted o < 2 ^ 62)
+weight-range true n o h = (h.0, h.1)
+weight-range false n o h = (omega arith, omega arith)
+
+-- and in range
+pub out-range : (weighted : Bool) (n : ℕ) (row : List OutEdge) → All (IsOutEdge n) row
+    → All (λ w. (1 ≤ w) × (w < 2 ^ 62)) (map (out_weight weighted) row)
+out-range weighted n row h =
+    All-map (λ w. (1 ≤ w) × (w < 2 ^ 62)) (out_weight weighted) row (λ k d low. weight-range weighted n (get_or row k d) (h k d low))
+
+-- what a table says of the weights that it is made of
+pub table-some : (ws t : List ℕ) (o : Option (List ℕ)) → o ≡ table_of ws → o ≡ Some t → ws ≡ t
+table-some [] t o of is = absurd (none_some t (sym of ∙ is))
+  where
+    none_some : (t : List ℕ) → None ≡ Some t → ⊥
+    none_some t e = let P : Option (List ℕ) → Type 0 = λ o. elim o as (λ _. Type 0) [ None ↦ Unit {0} | Some x ↦ ⊥ ] in subst P e tt
+table-some (w ∷ ws) t o of is = ap (λ (p : Option (List ℕ)). unwrap_or p []) (sym of ∙ is)
+
+pub table-none : (ws : List ℕ) (o : Option (List ℕ)) → o ≡ table_of ws → o ≡ None → ws ≡ []
+table-none [] o of is = refl
+table-none (w ∷ ws) o of is = absurd (some_none (w ∷ ws) (sym of ∙ is))
+  where
+    some_none : (t : List ℕ) → Some t ≡ None → ⊥
+    some_none t e = let P : Option (List ℕ) → Type 0 = λ o. elim o as (λ _. Type 0) [ None ↦ ⊥ | Some x ↦ Unit {0} ] in subst P e tt
+
+greatest-plain : greatest_factor Plain ≡ 1
+unfolding greatest_factor
+greatest-plain = refl
+
+-- the bound of a vertex, without a factor
+pub fits-plain : (ws t : List ℕ) (rule : Rule) → rule ≡ Plain → ws ≡ t
+    → length ws * sum ws * greatest_factor rule ≤ 2 ^ 62 → length t * sum t ≤ 2 ^ 62
+fits-plain ws t rule plain is fits =
+    let one : greatest_factor rule ≡ 1 = rw plain greatest-plain in
+    let bound : length ws * sum ws * 1 ≤ 2 ^ 62 = rw one at fits in
+    let plainly : length ws * sum ws ≤ 2 ^ 62 = omega (arith, bound) in
+    rw is at plainly
+
+-- a table is as long as the stored row
+pub taken-long : (weighted : Bool) (row : List Edge) (t : List ℕ) (out : List OutEdge) → weights_of weighted row ≡ t
+    → out ≡ map out_edge row → length t ≡ length out
+taken-long weighted row t out is stored =
+    ap (λ (l : List ℕ). length l) (sym is) ∙ length-weights_of weighted row ∙ sym (length-map row out_edge)
+    ∙ ap (λ (l : List OutEdge). length l) (sym stored)
+
+-- one more element of a list whose elements are known by their places
+pub append-each : {X : Type 0} (f : ℕ → X) (xs : List X) (x : X) → ((k : ℕ) (d : X) → k < length xs → get_or xs k d ≡ f k)
+    → x ≡ f (length xs) → (k : ℕ) (d : X) → k < length xs + 1 → get_or (xs ++ x ∷ []) k d ≡ f k
+append-each f [] x each last zero d low = last
+append-each f [] x each last (suc k) d low = absurd (omega arith)
+append-each f (y ∷ ys) x each last zero d low = each 0 d (omega arith)
+append-each f (y ∷ ys) x each last (suc k) d low =
+    append-each (λ n. f (suc n)) ys x (λ j e there. each (suc j) e (omega arith)) last k d (omega arith)
