@@ -1,12 +1,12 @@
+ghost use Rattle.std.specs.Prelude.{◌≡◌, ◌<◌, ℕ, true, length, All};
+ghost use Rattle.path_writer.specs.Named.{AreNamed};
+
 use super::*;
 use std::alloc::Global;
 use std::test::Fail;
 use vertex_names::Names;
 use walk_io::{Failed, MemorySink, SureSink};
 use walk_model::{Edge, Finished};
-
-ghost use Rattle.std.specs.Prelude.{◌≡◌, ◌<◌, ℕ, true, length, All};
-ghost use Rattle.path_writer.specs.Named.{AreNamed};
 
 /// The names of two vertices.
 fn names_of_two(alloc: Global, low: u32, high: u32) -> Result<Names, Fail> {
@@ -76,7 +76,11 @@ fn lines_of_walks(rt: HostRuntime) -> Result<(), Fail> {
     let alloc = rt.alloc();
     let empty: [&[u32]; 0] = [];
     for (ids, rows, text) in [
-        ((5, 9), [[0, 1].as_slice(), [1].as_slice()].as_slice(), b"5 9\n9\n".as_slice()),
+        (
+            (5, 9),
+            [[0, 1].as_slice(), [1].as_slice()].as_slice(),
+            b"5 9\n9\n".as_slice(),
+        ),
         ((5, 9), empty.as_slice(), b"".as_slice()),
         ((5, 9), [[].as_slice()].as_slice(), b"\n".as_slice()),
         (

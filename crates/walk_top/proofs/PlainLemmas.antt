@@ -1,13 +1,13 @@
 -- Darts at a board of weights alone, and the scan of its row.
-use Rattle.std.proofs.Common.{◌≡◌, ℕ, zero, suc, ◌+◌, ◌-◌, ◌*◌, ◌/◌, ◌%◌, ◌<◌, ◌≤◌, Bool, true, false, List, [], ◌∷◌, length, map, sum, get_or, take, drop, Option, Some, None, refl, ap, sym, ◌∙◌, arith}
-use Rattle.std.specs.Prelude.{nat_lt, nat_le, slice_index, ◌==◌, if◌then◌else◌, option_and_then}
+use Rattle.std.proofs.Common.{◌≡◌, ℕ, zero, suc, ◌+◌, ◌-◌, ◌*◌, ◌/◌, ◌%◌, ◌<◌, ◌≤◌, Bool, true, false, List, [], ◌∷◌, length, map, sum, Option, Some, None, refl, ap, sym, ◌∙◌, arith}
+use Rattle.std.specs.Prelude.{nat_lt, slice_index, ◌==◌, if◌then◌else◌, option_and_then}
 use Rattle.std.proofs.lemmas.Bool.Decides.{nat_tests}
 use Rattle.std.proofs.lemmas.List.Sums.{sum_by-cons}
 use Rattle.alias_table.specs.Columns.{IsRow}
 use Rattle.walk_model.specs.Lists.{first_above, products}
 use Rattle.walk_model.specs.Words.{fold_word, draw}
 use Rattle.walk_model.specs.Alias.{piece}
-use Rattle.walk_model.specs.Dart.{Board, area, main_area, back_weights, edge_at, taken_at, hit, scanned, scan_total, darts, or_next}
+use Rattle.walk_model.specs.Dart.{Board, area, edge_at, taken_at, hit, scanned, darts, or_next}
 use Rattle.walk_model.proofs.BoardLemmas.{darts-none}
 use Rattle.walk_top.specs.PlainBoard.{plain_board}
 

@@ -1,10 +1,9 @@
 -- Walks in ranks and in names.
-use Rattle.std.proofs.Common.{◌≡◌, ◌<◌, ◌≤◌, ◌+◌, ◌%◌, ℕ, zero, suc, Bool, true, false, List, [], ◌∷◌, ◌++◌, length, map, get_or, refl, ap, sym, subst, ◌∙◌, arith, Option, Some, None}
+use Rattle.std.proofs.Common.{◌≡◌, ◌<◌, ◌≤◌, ℕ, zero, suc, Bool, true, false, List, [], ◌∷◌, ◌++◌, length, map, get_or, refl, ap, sym, subst, ◌∙◌, arith, Option, Some, None}
 use Rattle.std.specs.Prelude.{nat_lt, ◌==◌, slice_index, All, IsTrue, IfSome}
 use Rattle.std.proofs.Math.Nat.{mod-lt}
 use Rattle.vertex_names.proofs.NameLaws.{ranked-ends, name-at_rank}
 use Rattle.std.specs.List.Sorted.{IsStrictlyIncreasing}
-use Rattle.std.proofs.lemmas.Bool.{false≢true}
 use Rattle.std.proofs.lemmas.Bool.Decides.{nat_tests}
 use Rattle.std.proofs.lemmas.List.{map-append, length-append}
 use Rattle.std.proofs.lemmas.List.Elements.{All-head, All-tail, All-map}
@@ -19,7 +18,7 @@ use Rattle.walk_model.specs.declared.states.State.{State}
 use Rattle.walk_model.specs.Graph.{vertices_of}
 use Rattle.walk_model.proofs.RenameLemmas.{Keeps, EndsIn, StandsIn, renamed, walk-renamed, next_state-in}
 use Rattle.walk_model.proofs.SameRowLemmas.{SameRows, walk-same}
-use Rattle.vertex_names.specs.Ranks.{is_name, rank_in, ranked, AreNamed}
+use Rattle.vertex_names.specs.Ranks.{is_name, ranked, AreNamed}
 use Rattle.vertex_names.proofs.IndexLemmas.{later}
 use Rattle.csr_store.specs.RowGraph.{RowGraph}
 use Rattle.walk_top.proofs.GroundLemmas.{append-each}
@@ -74,8 +73,11 @@ pub edges-back : (names : List ℕ) (edges : List Edge) → IsStrictlyIncreasing
 edges-back names [] up named = refl
 edges-back names (e ∷ es) up named =
     let head = All-head (λ (d : Edge). IsTrue (is_name names d.src) × IsTrue (is_name names d.dst)) e es named in
-    rw (name-at_rank names e.src up head.0, name-at_rank names e.dst up head.1,
-    edges-back names es up (All-tail (λ (d : Edge). IsTrue (is_name names d.src) × IsTrue (is_name names d.dst)) e es named)) refl
+    rw (
+      name-at_rank names e.src up head.0,
+      name-at_rank names e.dst up head.1,
+      edges-back names es up (All-tail (λ (d : Edge). IsTrue (is_name names d.src) × IsTrue (is_name names d.dst)) e es named),
+    ) refl
 
 -- ranked edges have both ends among the ranks
 pub ranks-in : (n : ℕ) (edges : List Edge) → All (λ e. (e.src < n) × (e.dst < n)) edges → EndsIn (λ r. r < n) edges
@@ -192,9 +194,11 @@ walk-within edges names plan seed from walker g all by starts low =
     let ends : EndsIn (λ r. r < length names) ranks = ranks-in (length names) ranks (ranked-ends names edges all) in
     let same : SameRows g.edges ranks = record { rows = by.rows; has = by.has } in
     subst (λ (l : List ℕ). All (λ r. r < length names) l) (sym (walk-same g.edges ranks same plan (word seed walker) start plan.length))
-    (all-AllIn (λ r. r < length names) (walk (course ranks plan (word seed walker) start) plan.length)
-    (stands, entries_after-in (λ r. r < length names) plan.length (course ranks plan (word seed walker) start) (first_state start) ends stands
-    (record { at = stands; before = tt })))
+    (all-AllIn (λ r. r < length names) (walk (course ranks plan (word seed walker) start) plan.length) (
+      stands,
+      entries_after-in (λ r. r < length names) plan.length (course ranks plan (word seed walker) start) (first_state start) ends stands
+          (record { at = stands; before = tt }),
+    ))
 
 length-below : (n : ℕ) → length (below n) ≡ n
 unfolding below

@@ -1,18 +1,17 @@
 -- A choice under the plain rule.
-use Rattle.std.proofs.Common.{◌≡◌, ◌≢◌, ℕ, zero, suc, ◌+◌, ◌-◌, ◌*◌, ◌/◌, ◌%◌, ◌^◌, ◌<◌, ◌≤◌, Bool, true, false, List, [], ◌∷◌, length, map, sum, get_or, Option, Some, None, refl, ap, sym, ◌∙◌, arith}
-use Rattle.std.specs.Prelude.{nat_lt, nat_le, ◌==◌, if◌then◌else◌, option_and_then, option_map, slice_get, unwrap_or}
+use Rattle.std.proofs.Common.{◌≡◌, ℕ, zero, suc, ◌+◌, ◌*◌, ◌/◌, ◌%◌, ◌^◌, ◌<◌, Bool, true, false, List, [], ◌∷◌, length, map, sum, get_or, Option, Some, None, refl, ap, sym, ◌∙◌, arith}
+use Rattle.std.specs.Prelude.{nat_lt, nat_le, ◌==◌, if◌then◌else◌, option_and_then, option_map, unwrap_or}
 use Rattle.std.proofs.lemmas.Bool.Decides.{nat_tests}
 use Rattle.walk_model.specs.declared.graph.Edge.{Edge}
-use Rattle.walk_model.specs.declared.programme.Rule.{Rule}
 use Rattle.walk_model.specs.declared.programme.Rule.TheVariants.{Plain}
 use Rattle.walk_model.specs.declared.states.State.{State}
 use Rattle.walk_model.specs.Settings.{Settings}
 use Rattle.walk_model.specs.Course.{Course}
 use Rattle.walk_model.specs.Words.{fold_word}
-use Rattle.walk_model.specs.Graph.{weights_of, static_weight, ends_of}
+use Rattle.walk_model.specs.Graph.{weights_of, ends_of}
 use Rattle.walk_model.specs.Factor.{factor}
-use Rattle.walk_model.specs.Dart.{Board, area, main_area, back_weights, edge_at, taken_at, hit, scanned, darts, or_next, board_of, height_of, lift_of, ends_below, ends_at}
-use Rattle.walk_model.specs.Walk.{chosen, moved, moved_along}
+use Rattle.walk_model.specs.Dart.{Board, area, edge_at, taken_at, hit, scanned, darts, board_of, height_of, lift_of, ends_below, ends_at}
+use Rattle.walk_model.specs.Walk.{chosen, moved_along}
 use Rattle.walk_model.proofs.BoardLemmas.{length-weights_of}
 use Rattle.csr_store.specs.declared.out_edge.OutEdge.{OutEdge}
 use Rattle.csr_store.specs.OutEdges.{out_edge}

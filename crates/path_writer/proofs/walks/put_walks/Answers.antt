@@ -44,6 +44,6 @@ pub returns-clause-whole : goal.returns-clause-whole
 returns-clause-whole g c =
     let f : List ℕ → List ℕ = line_by c.args.names.now in
     let all : c.args.block.now ++ concat (map f (take c.loop-i.i c.args.finished.now)) ≡ c.args.block.now ++ text (named c.args.names.now c.args.finished.now) =
-      ap (λ l. c.args.block.now ++ concat (map f l)) (take_all c.loop-i.i c.args.finished.now (omega arith))
-      ∙ ap (λ l. c.args.block.now ++ l) (sym (text-lines c.args.names.now c.args.finished.now)) in
+    ap (λ l. c.args.block.now ++ concat (map f l)) (take_all c.loop-i.i c.args.finished.now (omega arith))
+    ∙ ap (λ l. c.args.block.now ++ l) (sym (text-lines c.args.names.now c.args.finished.now)) in
     subst (λ l. GainsBut (g.K.Sink.bytes c.args.out.now) (g.K.Sink.bytes c.loop-i.out) l c.loop-i.block) all c.loop-i.invariant.so_far

@@ -1,4 +1,4 @@
-use Rattle.std.proofs.Common.{◌≡◌, ◌≤◌, ◌<◌, ◌+◌, ◌*◌, ℕ, suc, sum, length, refl, ap, arith, Some, None}
+use Rattle.std.proofs.Common.{◌≡◌, ◌<◌, ◌+◌, ◌*◌, ℕ, sum, length, refl, ap, arith, Some, None}
 use Rattle.std.proofs.Math.Nat.{one-le-mul}
 use Rattle.walk_model.specs.Words.{word, fold_word}
 use Rattle.walk_model.specs.Alias.{piece}

@@ -1,4 +1,4 @@
-use Rattle.std.proofs.Common.{◌≡◌, ◌+◌, ◌∙◌, List, ℕ, sym, ap, refl, [], ◌∷◌, ◌++◌, map}
+use Rattle.std.proofs.Common.{◌≡◌, ◌∙◌, List, ℕ, sym, ap, [], ◌∷◌, ◌++◌, map}
 use Rattle.walk_top.specs.Starts.{rank_walk, start_rank}
 use Rattle.walk_top.specs.Outputs.{below}
 use Rattle.walk_top.proofs.TourLemmas.{below-none, below-more, item_lists-more, start_is, rank_walk-is}
