@@ -63,11 +63,6 @@ concat-map-more f (x ∷ xs) zero d there = append-nil (f x)
 concat-map-more f (x ∷ xs) (suc i) d there =
     ap (λ l. f x ++ l) (concat-map-more f xs i d (omega arith)) ∙ sym (append_assoc (f x) (concat (map f (take i xs))) (f (get_or xs i d)))
 
--- a list of bytes as pieces
-pub concat-map-each : (f : ℕ → ℕ) (xs : List ℕ) → concat (map (λ x. f x ∷ []) xs) ≡ map f xs
-concat-map-each f [] = refl
-concat-map-each f (x ∷ xs) = ap (λ l. f x ∷ l) (concat-map-each f xs)
-
 -- bytes one by one, cut at one of them
 pub map-at : (f : ℕ → ℕ) (xs : List ℕ) (i d : ℕ) → i < length xs → map f xs ≡ map f (take i xs) ++ ((f (get_or xs i d) ∷ []) ++ map f (drop (suc i) xs))
 map-at f [] i d there = absurd (omega arith)

@@ -1,3 +1,4 @@
 pub mod GainLemmas
 pub mod WaitingLemmas
 pub mod TextLemmas
+pub mod DigitLemmas

@@ -2,13 +2,13 @@
 
 ghost use Rattle.std.specs.Prelude.{◌≡◌, ◌+◌, ◌≤◌, ◌++◌, ◌∷◌, [], length, decimal};
 
-use itoa::Buffer;
+use itoa::write_digits;
 use std::marker::Model;
 
 /// The number of bytes that a block has room for.
 pub(crate) const ROOM: usize = 8192;
 
-/// The bytes that wait to be written.
+/// The bytes that wait to be written, seen as their list.
 #[derive(Drop)]
 pub(crate) struct Block {
     bytes: [u8; ROOM],
@@ -75,10 +75,29 @@ impl Block {
         requires { length self.old + 10 ≤ 8192 }
         ensures { self.new ≡ self.old ++ decimal number }
     {
-        let mut buffer = Buffer::new();
-        let digits = buffer.format(number).as_bytes();
-        let end = self.len + digits.len();
-        self.bytes[self.len..end].copy_from_slice(digits);
+        let end = self.len + digit_count(number);
+        write_digits(number as u64, &mut self.bytes, end);
         self.len = end;
+    }
+}
+
+/// The number of a number's digits.
+#[inline(always)]
+#[tactic(auto, using(crate::proofs::DigitLemmas::digit_counts))]
+fn digit_count(number: u32) -> usize
+    ensures count { result ≡ length (decimal number) }
+    ensures few { result ≤ 10 }
+{
+    match number {
+        0..=9 => 1,
+        10..=99 => 2,
+        100..=999 => 3,
+        1_000..=9_999 => 4,
+        10_000..=99_999 => 5,
+        100_000..=999_999 => 6,
+        1_000_000..=9_999_999 => 7,
+        10_000_000..=99_999_999 => 8,
+        100_000_000..=999_999_999 => 9,
+        _ => 10,
     }
 }

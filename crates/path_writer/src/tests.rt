@@ -54,21 +54,20 @@ fn are_named(names: &Names, finished: &Finished) -> bool
     true
 }
 
-/// What is written of walks by ranks 0 and 1 with these two names, and whether all of it was.
+/// A sink that walks by ranks 0 and 1 were written to with these two names, and whether all was.
 fn written(
     alloc: Global,
     ids: (u32, u32),
     rows: &[&[u32]],
     mut sink: MemorySink,
-) -> Result<(bool, Vec<u8>), Fail> {
+) -> Result<(bool, MemorySink), Fail> {
     let names = names_of_two(alloc, ids.0, ids.1)?;
     let finished = walks_of(alloc, rows)?;
     if !are_named(&names, &finished) {
         return Err(Fail::new("a rank without a name"));
     }
     let whole = write_walks(&finished, &names, &mut sink).is_ok();
-    let MemorySink { bytes, .. } = sink;
-    Ok((whole, bytes))
+    Ok((whole, sink))
 }
 
 #[test]
@@ -90,9 +89,9 @@ fn lines_of_walks(rt: HostRuntime) -> Result<(), Fail> {
         ),
     ] {
         let sink = MemorySink::new(alloc, 64, vec![in alloc]?, 64)?;
-        let (whole, bytes) = written(alloc, ids, rows, sink)?;
+        let (whole, sink) = written(alloc, ids, rows, sink)?;
         assert!(rt; whole);
-        assert_eq!(rt; bytes.as_slice(), text);
+        assert_eq!(rt; sink.bytes.as_slice(), text);
     }
     Ok(())
 }
@@ -102,11 +101,13 @@ fn many_blocks(rt: HostRuntime) -> Result<(), Fail> {
     let alloc = rt.alloc();
     let walk = vec![in alloc; 1; 3_000]?;
     let rows = [walk.as_slice(), [0].as_slice()];
-    let sink = MemorySink::new(alloc, 40_000, vec![in alloc]?, 7_000)?;
-    let (whole, bytes) = written(alloc, (7, u32::MAX), &rows, sink)?;
+    let sink = MemorySink::new(alloc, 40_000, vec![in alloc]?, 40_000)?;
+    let (whole, sink) = written(alloc, (7, u32::MAX), &rows, sink)?;
     assert!(rt; whole);
-    assert_eq!(rt; bytes.len(), 33_002);
-    for (i, b) in bytes.iter().enumerate() {
+    assert_eq!(rt; sink.bytes.len(), 33_002);
+    // one call for each block of 8192 bytes, but for what an entry may leave of it
+    assert_eq!(rt; sink.calls, 5);
+    for (i, b) in sink.bytes.iter().enumerate() {
         let wanted = match i {
             32_999 | 33_001 => b'\n',
             33_000 => b'7',
@@ -122,9 +123,9 @@ fn a_sink_that_fails(rt: HostRuntime) -> Result<(), Fail> {
     let alloc = rt.alloc();
     let rows = [[0, 1].as_slice(), [1].as_slice()];
     let sink = MemorySink::new(alloc, 64, vec![in alloc; 2]?, 3)?;
-    let (whole, bytes) = written(alloc, (5, 9), &rows, sink)?;
+    let (whole, sink) = written(alloc, (5, 9), &rows, sink)?;
     assert!(rt; !whole);
-    assert_eq!(rt; bytes.as_slice(), b"5 9".as_slice());
+    assert_eq!(rt; sink.bytes.as_slice(), b"5 9".as_slice());
     let mut sink = MemorySink::new(alloc, 4, vec![in alloc]?, 3)?;
     assert_eq!(rt; write_all(&mut sink, b"5 9\n"), Ok(()));
     assert_eq!(rt; write_all(&mut sink, b"9"), Err(Failed));

@@ -1,12 +1,12 @@
 //! Walks, one after another.
 
-ghost use Rattle.std.specs.Prelude.{◌≡◌, ◌≤◌, ◌<◌, ◌++◌, length, map, slice_index, All, OnOk, OnErr};
+ghost use Rattle.std.specs.Prelude.{◌≡◌, ◌≤◌, ◌<◌, ◌++◌, length, take, map, slice_index, All, OnOk, OnErr};
 ghost use Rattle.std.specs.List.{concat};
 ghost use Rattle.std.specs.Io.KnownBytes.{append_known};
 ghost use Rattle.walk_io.specs.Causes.{Rose};
 ghost use Rattle.walk_model.specs.Text.{text, line};
 ghost use Rattle.path_writer.specs.Gains.{GainsFront, GainsBut};
-ghost use Rattle.path_writer.specs.Named.{spaced, entries, named, AreNamed};
+ghost use Rattle.path_writer.specs.Named.{spaced, later, entries, named, AreNamed};
 
 use crate::block::Block;
 use crate::filling::{flush, put_byte, put_number, put_spaced};
@@ -18,6 +18,37 @@ use walk_model::Finished;
 #[derive(Clone, Copy, Debug, PartialEq, Eq)]
 pub struct WriteFault;
 
+/// How many ids are looked up before any of them is put. The look-ups are then under way at once,
+/// however far apart the ids lie.
+const AHEAD: usize = 16;
+
+/// Looks up the ids of some ranks, to the front of a list.
+fn look_up(names: &Names, ranks: &[u32], ids: &mut [u32; AHEAD])
+    requires named { All (λ r. r < length names.now) ranks.now }
+    requires few { length ranks.now ≤ 16 }
+    ensures { take (length ranks.now) ids.new ≡ map (slice_index names.now) ranks.now }
+{
+    for (i, rank) in ranks.iter().enumerate() {
+        ids[i] = names.id(*rank);
+    }
+}
+
+/// Adds a space and an id for each of some ids.
+fn put_ids<K: Sink>(block: &mut Block, out: &mut K, ids: &[u32]) -> Result<(), Failed>
+    ensures whole { OnOk result (GainsBut (K.bytes out.old) (K.bytes out.new) (block.old ++ concat (map spaced ids.now)) block.new) }
+    ensures front { OnErr result (GainsFront (K.bytes out.old) (K.bytes out.new) (block.old ++ concat (map spaced ids.now))) }
+    ensures later { K.faults out.old ≤ K.faults out.new }
+    ensures failed { OnErr result (Rose (K.faults out.old) (K.faults out.new)) }
+{
+    for id in ids {
+        match put_spaced(block, out, *id) {
+            Ok(()) => {}
+            Err(failed) => return Err(failed),
+        }
+    }
+    Ok(())
+}
+
 /// Adds the entries of a walk after its first.
 fn put_later<K: Sink>(
     block: &mut Block,
@@ -26,14 +57,18 @@ fn put_later<K: Sink>(
     ranks: &[u32],
 ) -> Result<(), Failed>
     requires { All (λ r. r < length names.now) ranks.now }
-    ensures whole { OnOk result (GainsBut (K.bytes out.old) (K.bytes out.new) (block.old ++ concat (map (spaced names.now) ranks.now)) block.new) }
-    ensures front { OnErr result (GainsFront (K.bytes out.old) (K.bytes out.new) (block.old ++ concat (map (spaced names.now) ranks.now))) }
+    ensures whole { OnOk result (GainsBut (K.bytes out.old) (K.bytes out.new) (block.old ++ later names.now ranks.now) block.new) }
+    ensures front { OnErr result (GainsFront (K.bytes out.old) (K.bytes out.new) (block.old ++ later names.now ranks.now)) }
     ensures later { K.faults out.old ≤ K.faults out.new }
     ensures failed { OnErr result (Rose (K.faults out.old) (K.faults out.new)) }
 {
-    for rank in ranks {
-        match put_spaced(block, out, names.id(*rank)) {
-            Ok(()) => {}
+    let mut ids = [0u32; AHEAD];
+    let mut done = 0usize;
+    'putting: while done < ranks.len() {
+        let count = AHEAD.min(ranks.len() - done);
+        look_up(names, &ranks[done..done + count], &mut ids);
+        match put_ids(block, out, &ids[..count]) {
+            Ok(()) => done += count,
             Err(failed) => return Err(failed),
         }
     }

@@ -1,4 +1,4 @@
-use Rattle.std.proofs.Common.{◌<◌, ℕ, List, get_or, length}
+use Rattle.std.proofs.Common.{◌<◌, ℕ, List, get_or}
 use Rattle.std.specs.Prelude.{All}
 use Rattle.path_writer.proofs.tests.are_named.Given as goal
 

@@ -1,4 +1,4 @@
-use Rattle.std.proofs.Common.{◌≡◌, ◌++◌, ◌∷◌, [], ℕ, List, map, ◌∙◌, sym, ap, append_assoc}
+use Rattle.std.proofs.Common.{◌≡◌, ◌++◌, ◌∷◌, [], ℕ, List, ◌∙◌, sym, ap, append_assoc}
 use Rattle.path_writer.specs.Named.{entries}
 use Rattle.path_writer.proofs.WaitingLemmas.{but-after, front-waiting, front-longer, ok-so, err-so}
 use Rattle.path_writer.proofs.TextLemmas.{line_by, line-entries}

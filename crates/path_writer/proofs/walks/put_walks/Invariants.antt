@@ -1,4 +1,4 @@
-use Rattle.std.proofs.Common.{◌≡◌, ◌≤◌, ◌++◌, take, map}
+use Rattle.std.proofs.Common.{◌≤◌, ◌++◌, take, map}
 use Rattle.std.specs.List.{concat}
 use Rattle.path_writer.specs.Gains.{GainsBut}
 use Rattle.path_writer.proofs.TextLemmas.{line_by}
