@@ -115,57 +115,17 @@ fn faults(rt: HostRuntime) -> Result<(), Fail> {
 #[test]
 fn limits(rt: HostRuntime) -> Result<(), Fail> {
     let cycle = b"0 1\n1 2\n2 0\n";
-    let bytes = Err(LineFault::Limit {
-        what: Limit::GraphBytes,
-    });
-    let edges = Err(LineFault::Limit { what: Limit::Edges });
-    expect_cut(
-        &rt,
-        false,
-        ReadLimits { bytes: 7, edges: 9 },
-        cycle,
-        bytes,
-        &[],
-    )?;
-    expect_cut(
-        &rt,
-        false,
-        ReadLimits {
-            bytes: 99,
-            edges: 2,
-        },
-        cycle,
-        edges,
-        &[],
-    )?;
-    expect_cut(
-        &rt,
-        true,
-        ReadLimits {
-            bytes: 99,
-            edges: 5,
-        },
-        cycle,
-        edges,
-        &[],
-    )?;
-    expect_cut(
-        &rt,
-        false,
-        ReadLimits {
-            bytes: 11,
-            edges: 2,
-        },
-        cycle,
-        bytes,
-        &[],
-    )?;
-    expect_cut(
-        &rt,
-        false,
-        ReadLimits { bytes: 3, edges: 9 },
-        b"0 x\n",
-        bytes,
-        &[],
-    )
+    let cases: [(bool, u64, u64, &[u8], Limit); 5] = [
+        (false, 7, 9, cycle, Limit::GraphBytes),
+        (false, 99, 2, cycle, Limit::Edges),
+        (true, 99, 5, cycle, Limit::Edges),
+        (false, 11, 2, cycle, Limit::GraphBytes),
+        (false, 3, 9, b"0 x\n", Limit::GraphBytes),
+    ];
+    for (undirected, bytes, edges, text, what) in cases {
+        let limits = ReadLimits { bytes, edges };
+        let want = Err(LineFault::Limit { what });
+        expect_cut(&rt, undirected, limits, text, want, &[])?;
+    }
+    Ok(())
 }

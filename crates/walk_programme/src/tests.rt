@@ -58,8 +58,9 @@ fn plans(rt: HostRuntime) -> Result<(), Fail> {
     Ok(())
 }
 
+/// Faults of the text come before unknown keys, the least first, and those before a missing one.
 #[test]
-fn faults(rt: HostRuntime) -> Result<(), Fail> {
+fn faults_of_texts_and_keys(rt: HostRuntime) -> Result<(), Fail> {
     expect_faults(
         &rt,
         &[
@@ -81,6 +82,17 @@ fn faults(rt: HostRuntime) -> Result<(), Fail> {
             ),
             ("[p]\ntop = 1", "Missing { key: Length }"),
             ("p = 0.5", "Missing { key: Length }"),
+        ],
+    )?;
+    Ok(())
+}
+
+/// What comes first of a clash and a bad value.
+#[test]
+fn faults_that_clash(rt: HostRuntime) -> Result<(), Fail> {
+    expect_faults(
+        &rt,
+        &[
             ("length = 3\np = 0.5", "BadValue { key: P }"),
             (
                 "length = 3\nscheme = [1]\nq = \"1\"",
@@ -96,6 +108,17 @@ fn faults(rt: HostRuntime) -> Result<(), Fail> {
             ),
             ("length = 3\nfrom = 1\nq = 0", "BadValue { key: Q }"),
             ("length = 3\nq = \"0/7\"\np = 0", "BadValue { key: P }"),
+        ],
+    )?;
+    Ok(())
+}
+
+/// Lengths and walkers of a wrong kind or out of range.
+#[test]
+fn faults_of_walkers(rt: HostRuntime) -> Result<(), Fail> {
+    expect_faults(
+        &rt,
+        &[
             ("length.x = 3", "BadValue { key: Length }"),
             ("length = {x = 3}", "BadValue { key: Length }"),
             ("length = 2026-11-30", "BadValue { key: Length }"),
@@ -114,6 +137,17 @@ fn faults(rt: HostRuntime) -> Result<(), Fail> {
                 "length = 3\nwalkers = 3\nfrom = 4294967296",
                 "BadValue { key: From }",
             ),
+        ],
+    )?;
+    Ok(())
+}
+
+/// Coins and rules of a wrong kind or out of range.
+#[test]
+fn faults_of_rules(rt: HostRuntime) -> Result<(), Fail> {
+    expect_faults(
+        &rt,
+        &[
             ("length = 3\nweighted = 1", "BadValue { key: Weighted }"),
             (
                 "length = 3\nundirected = \"true\"",
@@ -135,6 +169,11 @@ fn faults(rt: HostRuntime) -> Result<(), Fail> {
             ("length = 3\nq = 1000001", "BadValue { key: Q }"),
         ],
     )?;
+    Ok(())
+}
+
+#[test]
+fn odd_bytes(rt: HostRuntime) -> Result<(), Fail> {
     expect_answer(&rt, b"length = 3 # \xFF", "Err(Text)")?;
     let blank = vec![in rt.alloc(); b'#'; 65536]?;
     expect_answer(&rt, &blank, "Err(Missing { key: Length })")?;
