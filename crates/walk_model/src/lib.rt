@@ -22,6 +22,7 @@ mod walks;
 
 pub use checks::can_walk;
 pub use digits::whole_number;
+pub use factors::greatest_factor;
 pub use faults::{
     Key, KeyText, Limit, LineFault, Memory, NameText, PlanFault, WalkFault, Why, status,
 };

@@ -1,5 +1,5 @@
 -- Tables, row by row.
-use Rattle.std.proofs.Common.{◌≡◌, ◌<◌, ◌≤◌, ◌+◌, ◌*◌, ◌^◌, ℕ, zero, suc, Bool, true, false, List, [], ◌∷◌, ◌++◌, length, map, sum, get_or, Option, Some, None, refl, ap, sym, subst, ◌∙◌, arith}
+use Rattle.std.proofs.Common.{◌≡◌, ◌<◌, ◌≤◌, ◌+◌, ◌*◌, ◌^◌, ℕ, zero, suc, Bool, true, false, List, [], ◌∷◌, ◌++◌, length, map, sum, take, get_or, Option, Some, None, refl, ap, sym, subst, ◌∙◌, arith}
 use Rattle.std.specs.Prelude.{All, unwrap_or}
 use Rattle.std.proofs.lemmas.List.Elements.{All-map}
 use Rattle.walk_model.specs.declared.graph.Edge.{Edge}
@@ -8,7 +8,10 @@ use Rattle.walk_model.specs.declared.programme.Rule.TheVariants.{Plain}
 use Rattle.walk_model.specs.Factor.{greatest_factor}
 use Rattle.walk_model.specs.Graph.{weights_of, static_weight}
 use Rattle.walk_model.proofs.BoardLemmas.{length-weights_of}
-use Rattle.std.proofs.lemmas.List.{length-map}
+use Rattle.std.proofs.lemmas.Grind.{common_steps}
+use Rattle.std.proofs.lemmas.List.Sums.{sum_by-cons, sum_by-append}
+use Rattle.std.proofs.Math.Seq.{take-suc}
+use Rattle.std.proofs.lemmas.List.{length-map, map-append}
 use Rattle.csr_store.specs.declared.out_edge.OutEdge.{OutEdge}
 use Rattle.csr_store.specs.OutEdges.{out_edge}
 use Rattle.csr_store.specs.Shelves.{IsOutEdge}
@@ -20,6 +23,23 @@ pub out-weights : (weighted : Bool) (row : List Edge) → map (out_weight weight
 unfolding weights_of
 out-weights weighted [] = refl
 out-weights weighted (e ∷ es) = ap (λ l. static_weight weighted e ∷ l) (out-weights weighted es)
+
+-- without weights a row weighs its number of edges
+pub unweighted-sum : (row : List OutEdge) → length row ≡ sum (map (out_weight false) row)
+unweighted-sum [] = refl
+unweighted-sum (e ∷ es) =
+    let rest = unweighted-sum es in
+    grind (arith, common_steps, sum_by-cons)
+
+-- the weights of one edge more of a row
+pub weight-more : (row : List OutEdge) (i : ℕ) (d : OutEdge) → i < length row
+    → sum (map (λ e. e.weight) (take (suc i) row)) ≡ sum (map (λ e. e.weight) (take i row)) + (get_or row i d).weight
+weight-more row i d low =
+    let one : sum (map (λ (e : OutEdge). e.weight) (get_or row i d ∷ [])) ≡ (get_or row i d).weight = sum_by-cons (λ n. n) (get_or row i d).weight [] ∙ omega arith in
+    ap (λ (es : List OutEdge). sum (map (λ e. e.weight) es)) (take-suc row i d low)
+    ∙ ap (λ (ws : List ℕ). sum ws) (map-append (λ (e : OutEdge). e.weight) (take i row) (get_or row i d ∷ []))
+    ∙ sum_by-append (λ n. n) (map (λ (e : OutEdge). e.weight) (take i row)) (map (λ (e : OutEdge). e.weight) (get_or row i d ∷ []))
+    ∙ ap (λ n. sum (map (λ (e : OutEdge). e.weight) (take i row)) + n) one
 
 weight-range : (weighted : Bool) (n : ℕ) (o : OutEdge) → IsOutEdge n o
     → (1 ≤ out_weight weighted o) × (out_weight weighted o < 2 ^ 62)

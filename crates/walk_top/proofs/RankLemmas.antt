@@ -23,7 +23,7 @@ use Rattle.vertex_names.proofs.IndexLemmas.{later}
 use Rattle.csr_store.specs.RowGraph.{RowGraph}
 use Rattle.walk_top.proofs.GroundLemmas.{append-each}
 use Rattle.walk_top.specs.Ranked.{IsRankedBy}
-use Rattle.walk_top.specs.Starts.{start_rank, StartsIn, rank_walk, rank_walks}
+use Rattle.walk_top.specs.Starts.{start_rank, StartsIn, IsRankOf, rank_walk, rank_walks}
 use Rattle.walk_top.specs.Outputs.{below}
 
 -- an earlier or equal place of rising names holds no greater one
@@ -85,12 +85,6 @@ ranks-in n [] h = tt
 ranks-in n (e ∷ es) h =
     let head = All-head (λ (d : Edge). (d.src < n) × (d.dst < n)) e es h in
     (head.0, head.1, ranks-in n es (All-tail (λ (d : Edge). (d.src < n) × (d.dst < n)) e es h))
-
--- the plan's own start, if it has one, has this rank
-abbrev pub IsRankOf : StartRule → List ℕ → ℕ → Type 0
-IsRankOf Each names from = Unit {0}
-IsRankOf (Spread walkers) names from = Unit {0}
-IsRankOf (From walkers id) names from = slice_index names from ≡ id
 
 start-named : (rule : StartRule) (names : List ℕ) (from walker : ℕ) → IsRankOf rule names from
     → slice_index names (start_rank rule (length names) from walker) ≡ start_of rule names walker

@@ -1,5 +1,5 @@
 -- Where walkers start, in ranks.
-use Rattle.std.specs.Prelude.{ℕ, ◌%◌, ◌<◌, List, map}
+use Rattle.std.specs.Prelude.{ℕ, ◌≡◌, ◌%◌, ◌<◌, List, map, slice_index}
 use Rattle.walk_model.specs.declared.programme.StartRule.{StartRule}
 use Rattle.walk_model.specs.declared.programme.StartRule.TheVariants.{Each, Spread, From}
 use Rattle.walk_model.specs.Settings.{Settings}
@@ -20,6 +20,12 @@ abbrev pub StartsIn : StartRule → ℕ → ℕ → Type 0
 StartsIn Each vertices from = Unit {0}
 StartsIn (Spread walkers) vertices from = 0 < walkers → 0 < vertices
 StartsIn (From walkers id) vertices from = 0 < walkers → from < vertices
+
+-- the plan's own start, if it has one, has this rank
+abbrev pub IsRankOf : StartRule → List ℕ → ℕ → Type 0
+IsRankOf Each names from = Unit {0}
+IsRankOf (Spread walkers) names from = Unit {0}
+IsRankOf (From walkers id) names from = slice_index names from ≡ id
 
 -- the walk of a walker on rows, in ranks
 unfoldable pub rank_walk : RowGraph → Settings → ℕ → ℕ → ℕ → List ℕ

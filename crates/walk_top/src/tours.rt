@@ -29,7 +29,7 @@ fn tour<L: Ledger>(
     requires rule { plan.now.rule ≡ Plain }
     requires weighted { ground.now.weighted ≡ plan.now.weighted }
     requires start { start < ground.now.rows.vertices }
-    requires fits { (v : ℕ) → reach_of ground.now.rows.edges plan.now v ≤ 2 ^ 62 }
+    requires fits { (v : ℕ) → v < ground.now.rows.vertices → reach_of ground.now.rows.edges plan.now v ≤ 2 ^ 62 }
     requires place { reader.old.place ≡ 0 }
     ensures walk { IfOk result (λ v. v.items ≡ walk (course ground.now.rows.edges plan.now (word reader.old.seed reader.old.walker) start) plan.now.length) }
     ensures seed { reader.new.seed ≡ reader.old.seed }
@@ -95,7 +95,7 @@ fn tours_with<L: Ledger>(
     requires rule { plan.now.rule ≡ Plain }
     requires weighted { ground.now.weighted ≡ plan.now.weighted }
     requires starts { StartsIn plan.now.start ground.now.rows.vertices from }
-    requires fits { (v : ℕ) → reach_of ground.now.rows.edges plan.now v ≤ 2 ^ 62 }
+    requires fits { (v : ℕ) → v < ground.now.rows.vertices → reach_of ground.now.rows.edges plan.now v ≤ 2 ^ 62 }
     ensures { IfOk result (λ ws. item_lists ws.items ≡ rank_walks ground.now.rows plan.now seed from) }
 {
     let vertices = ground.rows.vertices();
@@ -127,7 +127,7 @@ fn counted_tours<L: Ledger>(
     requires rule { plan.now.rule ≡ Plain }
     requires weighted { ground.now.weighted ≡ plan.now.weighted }
     requires starts { StartsIn plan.now.start ground.now.rows.vertices from }
-    requires fits { (v : ℕ) → reach_of ground.now.rows.edges plan.now v ≤ 2 ^ 62 }
+    requires fits { (v : ℕ) → v < ground.now.rows.vertices → reach_of ground.now.rows.edges plan.now v ≤ 2 ^ 62 }
     ensures { IfOk result (λ ws. item_lists ws.items ≡ rank_walks ground.now.rows plan.now seed from) }
 {
     let mut steps = Steps::<L>::new(blank);
@@ -145,7 +145,7 @@ pub(crate) fn tours(
     requires rule { plan.now.rule ≡ Plain }
     requires weighted { ground.now.weighted ≡ plan.now.weighted }
     requires starts { StartsIn plan.now.start ground.now.rows.vertices from }
-    requires fits { (v : ℕ) → reach_of ground.now.rows.edges plan.now v ≤ 2 ^ 62 }
+    requires fits { (v : ℕ) → v < ground.now.rows.vertices → reach_of ground.now.rows.edges plan.now v ≤ 2 ^ 62 }
     ensures { IfOk result (λ f. f ≡ rank_walks ground.now.rows plan.now seed from) }
 {
     let walks = counted_tours::<Brand>(alloc, ground, plan, from, seed, Blank::new(1))?;

@@ -1,0 +1,29 @@
+-- The job of words that were read.
+use Rattle.std.specs.Prelude.{◌≤◌}
+use Rattle.walk_top.specs.Jobs.{Job, Quick, Walk, most_length, most_parts, most_workers}
+use Rattle.walk_top.specs.declared.words.QuickWords.{QuickWords}
+use Rattle.walk_top.specs.declared.words.WalkWords.{WalkWords}
+use Rattle.walk_top.specs.declared.words.Words.{Words}
+use Rattle.walk_top.specs.declared.words.Words.TheVariants as is
+
+-- the job of each command's words
+abbrev pub quick_of : QuickWords → Job
+quick_of q = Quick q.graph.now q.seed q.length
+
+abbrev pub walk_of : WalkWords → Job
+walk_of w = Walk w.graph.now w.programme.now w.seed w.parts w.workers
+
+abbrev pub job_of : Words → Job
+job_of (is.Quick q) = quick_of q
+job_of (is.Walk w) = walk_of w
+
+-- the ranges of their numbers
+abbrev pub IsQuickInRange : QuickWords → Type 0
+IsQuickInRange q = q.length ≤ most_length
+
+abbrev pub IsWalkInRange : WalkWords → Type 0
+IsWalkInRange w = (w.parts ≤ most_parts) × (w.workers ≤ most_workers)
+
+abbrev pub IsInRange : Words → Type 0
+IsInRange (is.Quick q) = IsQuickInRange q
+IsInRange (is.Walk w) = IsWalkInRange w

@@ -1,0 +1,167 @@
+//! Programmes that are read from files.
+
+ghost use Rattle.std.specs.Prelude.{◌≡◌, ◌≤◌, ◌⊎◌, ◌∷◌, [], ℕ, List, length, IfOk, IfErr, option_map};
+ghost use Rattle.walk_io.specs.Files.{Told, IfRead};
+ghost use Rattle.walk_model.specs.declared.faults.WalkFault.TheVariants as fault;
+ghost use Rattle.walk_model.specs.declared.programme.Rule.TheVariants.{Plain};
+ghost use Rattle.walk_top.specs.Verdicts.{Found, MayBe, fault_of_plan, unwalked_key, text_plan, named_plan, job_plan};
+ghost use Rattle.walk_top.specs.Stages.{IsRefusal, IsFaultIn};
+ghost use Rattle.walk_top.specs.TextFaults.{IsTextFault};
+ghost use Rattle.walk_top.specs.Jobs.{quick_plan, files_of};
+ghost use Rattle.walk_top.specs.JobViews.{job_of, IsInRange};
+
+use crate::files::read_fault;
+use crate::words::Words;
+use std::alloc::Global;
+use walk_io::Files;
+use walk_model::{Fraction, Key, Limit, Memory, Plan, PlanFault, Rule, StartRule, WalkFault};
+use walk_programme::{has_key, read_plan};
+
+/// How many bytes a programme may have.
+const MOST_BYTES: usize = 65536;
+
+/// Why there is no text of a programme's file: it can't be read, it is too long, or there was no memory.
+#[derive(Clone, Copy, Debug, PartialEq, Eq)]
+enum TextFault {
+    Read,
+    TooLong,
+    Memory,
+}
+
+/// The text of a programme's file, which is read from its beginning.
+fn read_text<F: Files>(alloc: Global, files: &mut F, name: &str) -> Result<Vec<u8>, TextFault>
+    ensures text { IfOk result (λ v. IfRead (F.told files.old name.now) (λ all. all ≡ v.items)) }
+    ensures short { IfOk result (λ v. length v.items ≤ 65536) }
+    ensures fault { IfErr result (IsTextFault (F.told files.old name.now) (F.faults files.old name.now) (F.faults files.new name.now)) }
+    ensures kept { (n : List ℕ) → F.told files.new n ≡ F.told files.old n }
+    ensures later { (n : List ℕ) → F.faults files.old n ≤ F.faults files.new n }
+{
+    let mut text = Vec::new(alloc);
+    let mut buffer = [0u8; 4096];
+    'reading: loop {
+        let count = match files.read_at(name, text.len() as u64, &mut buffer) {
+            Ok(0) => break 'reading,
+            Ok(count) => count,
+            Err(_) => return Err(TextFault::Read),
+        };
+        if count > MOST_BYTES - text.len() {
+            return Err(TextFault::TooLong);
+        }
+        match text.extend_from_slice(&buffer[..count]) {
+            Ok(()) => {}
+            Err(_) => return Err(TextFault::Memory),
+        }
+    }
+    Ok(text)
+}
+
+/// The fault of a programme as one of the whole call.
+fn fault_of_plan(fault: PlanFault) -> WalkFault
+    ensures { result ≡ fault_of_plan fault }
+{
+    match fault {
+        PlanFault::Memory => WalkFault::Memory,
+        fault => WalkFault::Programme { fault },
+    }
+}
+
+/// The key by which a programme chooses a rule that isn't walked yet.
+fn unwalked_key(alloc: Global, text: &[u8], rule: &Rule) -> Result<Option<Key>, Memory>
+    ensures { IfOk result (λ k. k ≡ unwalked_key text.now rule.now) }
+{
+    match rule {
+        Rule::Plain => Ok(None),
+        Rule::Scheme { .. } => Ok(Some(Key::Scheme)),
+        Rule::Node2vec { .. } => {
+            if has_key(alloc, text, "p")? {
+                Ok(Some(Key::P))
+            } else {
+                Ok(Some(Key::Q))
+            }
+        }
+    }
+}
+
+/// The plan of a programme's text.
+fn text_plan(alloc: Global, text: &[u8]) -> Result<Plan, WalkFault>
+    requires { length text.now ≤ 65536 }
+    ensures plan { IfOk result (λ p. text_plan text.now ≡ Found p) }
+    ensures rule { IfOk result (λ p. p.rule ≡ Plain) }
+    ensures fault { IfErr result (IsRefusal (text_plan text.now)) }
+{
+    let plan = match read_plan(alloc, text) {
+        Ok(plan) => plan,
+        Err(fault) => return Err(fault_of_plan(fault)),
+    };
+    match unwalked_key(alloc, text, &plan.rule) {
+        Ok(None) => Ok(plan),
+        Ok(Some(key)) => Err(WalkFault::Programme {
+            fault: PlanFault::BadValue { key },
+        }),
+        Err(_) => Err(WalkFault::Memory),
+    }
+}
+
+/// The plan of a programme's file.
+fn read_programme<F: Files>(alloc: Global, files: &mut F, name: &str) -> Result<Plan, WalkFault>
+    ensures plan { IfOk result (MayBe (named_plan (F.told files.old) name.now)) }
+    ensures rule { IfOk result (λ p. p.rule ≡ Plain) }
+    ensures fault { IfErr result (IsFaultIn (λ told. named_plan told name.now) (record {
+      names = name.now ∷ [];
+      told = F.told files.old;
+      reads = F.faults files.old;
+      reads_after = F.faults files.new;
+    })) }
+    ensures kept { (n : List ℕ) → F.told files.new n ≡ F.told files.old n }
+    ensures later { (n : List ℕ) → F.faults files.old n ≤ F.faults files.new n }
+{
+    match read_text(alloc, files, name) {
+        Ok(text) => text_plan(alloc, &text),
+        Err(TextFault::Read) => Err(read_fault(alloc, name)),
+        Err(TextFault::TooLong) => Err(WalkFault::Limit {
+            what: Limit::ProgrammeBytes,
+        }),
+        Err(TextFault::Memory) => Err(WalkFault::Memory),
+    }
+}
+
+/// The plan of `quick`.
+fn plan_of_quick(length: u32) -> Plan
+    requires { length ≤ 1048576 }
+    ensures { result ≡ quick_plan length }
+{
+    Plan {
+        weighted: false,
+        undirected: false,
+        length,
+        start: StartRule::Each,
+        retries: 32,
+        stop: Fraction::never(),
+        restart: Fraction::never(),
+        rule: Rule::Plain,
+    }
+}
+
+/// The plan of a command.
+pub(crate) fn find_plan<F: Files>(
+    alloc: Global,
+    files: &mut F,
+    words: &Words<'_>,
+) -> Result<Plan, WalkFault>
+    requires { IsInRange words.now }
+    ensures plan { IfOk result (MayBe (job_plan (F.told files.old) (job_of words.now))) }
+    ensures rule { IfOk result (λ p. p.rule ≡ Plain) }
+    ensures fault { IfErr result (IsFaultIn (λ told. job_plan told (job_of words.now)) (record {
+      names = files_of (job_of words.now);
+      told = F.told files.old;
+      reads = F.faults files.old;
+      reads_after = F.faults files.new;
+    })) }
+    ensures kept { (n : List ℕ) → F.told files.new n ≡ F.told files.old n }
+    ensures later { (n : List ℕ) → F.faults files.old n ≤ F.faults files.new n }
+{
+    match words {
+        Words::Quick(quick) => Ok(plan_of_quick(quick.length)),
+        Words::Walk(walk) => read_programme(alloc, files, walk.programme),
+    }
+}
