@@ -1,0 +1,44 @@
+-- Classes by type tell the factors of a walk by a scheme.
+use Rattle.std.proofs.Common.{◌≡◌, ℕ, zero, suc, ◌+◌, ◌<◌, Bool, true, false, List, [], ◌∷◌, length, map, refl, arith, ap}
+use Rattle.std.specs.Prelude.{◌==◌, if◌then◌else◌, slice_index, Option, Some, All}
+use Rattle.walk_model.specs.declared.graph.Edge.{Edge}
+use Rattle.walk_model.specs.declared.programme.Rule.TheVariants.{Scheme}
+use Rattle.walk_model.specs.Graph.{row}
+use Rattle.walk_model.specs.Factor.{wanted_kind, factor}
+use Rattle.walk_model.specs.Dart.{height_of}
+use Rattle.csr_store.specs.declared.out_edge.OutEdge.{OutEdge}
+use Rattle.csr_store.specs.OutEdges.{out_edge}
+use Rattle.metapath_walk.specs.TypeClasses.{type_class, type_classes, AreSchemeFactors}
+
+-- 1 and 0 are the factors of the two classes
+pub scheme_factors-are : AreSchemeFactors (1 ∷ 0 ∷ [])
+unfolding factor height_of
+scheme_factors-are = record {
+  factor_of = λ edges kinds previous phase e. by_test (e.kind == wanted_kind kinds phase);
+  height = λ kinds previous. refl;
+}
+  where
+    by_test : (b : Bool) → slice_index (1 ∷ 0 ∷ []) (if b then 0 else 1) ≡ (if b then 1 else 0)
+    by_test true = refl
+    by_test false = refl
+
+pub ruleset scheme_laws = (scheme_factors-are)
+
+-- the factors of the classes of some edges are the factors of the edges
+pub factors-by_type : (edges : List Edge) (kinds : List ℕ) (previous : Option ℕ) (phase : ℕ) (out : List Edge)
+    → map (slice_index (1 ∷ 0 ∷ [])) (type_classes (wanted_kind kinds phase) (map out_edge out))
+    ≡ map (factor edges (Scheme kinds) previous phase) out
+factors-by_type edges kinds previous phase [] = refl
+factors-by_type edges kinds previous phase (e ∷ es) =
+    rw (scheme_factors-are.factor_of edges kinds previous phase e)
+    (ap (λ fs. factor edges (Scheme kinds) previous phase e ∷ fs) (factors-by_type edges kinds previous phase es))
+
+-- there are two classes
+pub type_classes-below : (wanted : ℕ) (out : List OutEdge) → All (λ c. c < 2) (type_classes wanted out)
+type_classes-below wanted [] k d h = absurd (omega arith)
+type_classes-below wanted (e ∷ es) zero d h = below (e.kind == wanted)
+  where
+    below : (b : Bool) → (if b then 0 else 1) < 2
+    below true = omega arith
+    below false = omega arith
+type_classes-below wanted (e ∷ es) (suc k) d h = type_classes-below wanted es k d (omega arith)

@@ -1,0 +1,8 @@
+//! Walks by a scheme of types (meta-paths): in each phase a walker takes edges of one type alone.
+#![tactic(auto)]
+
+mod scheme;
+#[cfg(test)]
+mod tests;
+
+pub use scheme::{SchemeClasses, scheme_factors, wanted};

@@ -1,0 +1,46 @@
+//! The classes and the factors of a scheme.
+
+ghost use Rattle.std.specs.Prelude.{◌≡◌, [], ◌∷◌, map};
+ghost use Rattle.walk_model.specs.Factor.{wanted_kind};
+ghost use Rattle.metapath_walk.specs.TypeClasses.{known_class, AreSchemeFactors};
+
+use csr_store::OutEdge;
+use factor_table::{Classes, FactorTable};
+use walk_model::Kinds;
+
+/// The type that a scheme wants in a phase: its types come in turn, again and again.
+pub fn wanted(kinds: &Kinds, phase: u32) -> u8
+    ensures { result ≡ wanted_kind kinds.now phase }
+{
+    let kinds = kinds.as_slice();
+    kinds[phase as usize % kinds.len()]
+}
+
+/// The factors by class: 1 for class 0, the edges of the wanted type, and 0 for class 1, all others.
+#[tactic(auto, using(crate::proofs::SchemeLaws::scheme_laws))]
+pub fn scheme_factors() -> FactorTable<2>
+    ensures value { result ≡ 1 ∷ 0 ∷ [] }
+    ensures rule { AreSchemeFactors result }
+{
+    FactorTable::new([1, 0])
+}
+
+/// A row whose edges are classed by their type. Each class is known.
+#[derive(Clone, Copy, Debug)]
+pub struct SchemeClasses<'a> {
+    pub row: &'a [OutEdge],
+    pub wanted: u8,
+}
+
+impl<'a> Classes for SchemeClasses<'a> {
+    ghost known_classes = { λ s. map (known_class s.wanted) s.row.now };
+
+    #[inline]
+    fn known(&self, edge: usize) -> Option<usize> {
+        if self.row[edge].kind == self.wanted {
+            Some(0)
+        } else {
+            Some(1)
+        }
+    }
+}

@@ -1,0 +1,9 @@
+//! node2vec walks, after Grover and Leskovec: an edge's factor goes by whether it leads back to the
+//! previous vertex, to one of that vertex's neighbours, or farther away.
+#![tactic(auto)]
+
+mod nearness;
+#[cfg(test)]
+mod tests;
+
+pub use nearness::{NodeClasses, class_of, node_factors, zone};
