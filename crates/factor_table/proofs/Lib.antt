@@ -1,1 +1,2 @@
 pub mod FactorLaws
+pub mod OneClassLaws

@@ -1,6 +1,6 @@
 -- Classes by type tell the factors of a walk by a scheme.
-use Rattle.std.proofs.Common.{◌≡◌, ℕ, zero, suc, ◌+◌, ◌<◌, Bool, true, false, List, [], ◌∷◌, length, map, refl, arith, ap}
-use Rattle.std.specs.Prelude.{◌==◌, if◌then◌else◌, slice_index, Option, Some, All}
+use Rattle.std.proofs.Common.{◌≡◌, ℕ, zero, suc, ◌+◌, ◌<◌, Bool, true, false, List, [], ◌∷◌, length, map, get_or, refl, arith, ap}
+use Rattle.std.specs.Prelude.{◌==◌, if◌then◌else◌, slice_index, Option, Some, None, IfSome, All}
 use Rattle.walk_model.specs.declared.graph.Edge.{Edge}
 use Rattle.walk_model.specs.declared.programme.Rule.TheVariants.{Scheme}
 use Rattle.walk_model.specs.Graph.{row}
@@ -8,7 +8,7 @@ use Rattle.walk_model.specs.Factor.{wanted_kind, factor}
 use Rattle.walk_model.specs.Dart.{height_of}
 use Rattle.csr_store.specs.declared.out_edge.OutEdge.{OutEdge}
 use Rattle.csr_store.specs.OutEdges.{out_edge}
-use Rattle.metapath_walk.specs.TypeClasses.{type_class, type_classes, AreSchemeFactors}
+use Rattle.metapath_walk.specs.TypeClasses.{type_class, type_classes, known_class, AreSchemeFactors}
 
 -- 1 and 0 are the factors of the two classes
 pub scheme_factors-are : AreSchemeFactors (1 ∷ 0 ∷ [])
@@ -42,3 +42,20 @@ type_classes-below wanted (e ∷ es) zero d h = below (e.kind == wanted)
     below true = omega arith
     below false = omega arith
 type_classes-below wanted (e ∷ es) (suc k) d h = type_classes-below wanted es k d (omega arith)
+
+-- the class of each edge is known
+pub class-known : (wanted k : ℕ) (out : List OutEdge) → k < length out
+    → get_or (map (known_class wanted) out) k None ≡ Some (slice_index (type_classes wanted out) k)
+class-known wanted k [] h = absurd (omega arith)
+class-known wanted zero (e ∷ es) h = refl
+class-known wanted (suc k) (e ∷ es) h = class-known wanted k es (omega arith)
+
+-- and it has a factor
+pub known-below : (wanted k : ℕ) (out : List OutEdge) → IfSome (get_or (map (known_class wanted) out) k None) (λ class. class < 2)
+known-below wanted k [] = tt
+known-below wanted zero (e ∷ es) = by_test (e.kind == wanted)
+  where
+    by_test : (b : Bool) → (if b then 0 else 1) < 2
+    by_test true = omega arith
+    by_test false = omega arith
+known-below wanted (suc k) (e ∷ es) = known-below wanted k es

@@ -1,6 +1,7 @@
 -- Classes by nearness tell the factors of node2vec.
-use Rattle.std.proofs.Common.{◌≡◌, ℕ, zero, suc, ◌+◌, ◌-◌, ◌*◌, ◌^◌, ◌<◌, ◌≤◌, Bool, true, false, List, [], ◌∷◌, length, map, drop, refl, arith, ap}
-use Rattle.std.specs.Prelude.{◌==◌, if◌then◌else◌, max, slice_index, Option, Some, None, All, Any}
+use Rattle.std.proofs.Common.{◌≡◌, ℕ, zero, suc, ◌+◌, ◌-◌, ◌*◌, ◌<◌, ◌≤◌, ◌⊎◌, inl, inr, Bool, true, false, List, [], ◌∷◌, length, map, drop, get_or, refl, arith, ap}
+use Rattle.std.specs.Prelude.{◌==◌, if◌then◌else◌, max, slice_index, Option, Some, None, IfSome, Any}
+use Rattle.std.proofs.Math.Nat.{one-le-mul}
 use Rattle.walk_model.specs.declared.graph.Edge.{Edge}
 use Rattle.walk_model.specs.declared.programme.Fraction.{Fraction}
 use Rattle.walk_model.specs.declared.programme.Rule.TheVariants.{Node2vec}
@@ -38,3 +39,46 @@ factors-by_class edges p q t phase [] = refl
 factors-by_class edges p q t phase (e ∷ es) =
     rw ((class_factors-are p q).factor_of edges t phase e)
     (ap (λ fs. factor edges (Node2vec p q) (Some t) phase e ∷ fs) (factors-by_class edges p q t phase es))
+
+-- there are three classes
+pub class-below : (edges : List Edge) (t k : ℕ) (out : List OutEdge) → k < length out
+    → slice_index (classes_after edges t out) k < 3
+class-below edges t k [] h = absurd (omega arith)
+class-below edges t zero (e ∷ es) h = by_tests (e.dst == t) (has_edge edges t e.dst)
+  where
+    by_tests : (back near : Bool) → (if back then 0 else (if near then 1 else 2)) < 3
+    by_tests true near = omega arith
+    by_tests false true = omega arith
+    by_tests false false = omega arith
+class-below edges t (suc k) (e ∷ es) h = class-below edges t k es (omega arith)
+
+-- a class that is known is the edge's; where none is known, it isn't class 0
+pub class-known : (edges : List Edge) (t k : ℕ) (out : List OutEdge) → k < length out
+    → (get_or (map (known_class t) out) k None ≡ Some (slice_index (classes_after edges t out) k))
+    ⊎ ((get_or (map (known_class t) out) k None ≡ None) × (1 ≤ slice_index (classes_after edges t out) k))
+class-known edges t k [] h = absurd (omega arith)
+class-known edges t zero (e ∷ es) h = by_tests (e.dst == t) (has_edge edges t e.dst)
+  where
+    by_tests : (back near : Bool)
+        → (◌≡◌ {A = Option ℕ} (if back then Some 0 else None) (Some (if back then 0 else (if near then 1 else 2))))
+        ⊎ ((◌≡◌ {A = Option ℕ} (if back then Some 0 else None) None) × (1 ≤ (if back then 0 else (if near then 1 else 2))))
+    by_tests true near = inl refl
+    by_tests false true = inr (refl, omega arith)
+    by_tests false false = inr (refl, omega arith)
+class-known edges t (suc k) (e ∷ es) h = class-known edges t k es (omega arith)
+
+-- class 0 is the only one that is known
+pub known-below : (t k : ℕ) (out : List OutEdge) → IfSome (get_or (map (known_class t) out) k None) (λ class. class < 3)
+known-below t k [] = tt
+known-below t zero (e ∷ es) = by_test (e.dst == t)
+  where
+    by_test : (back : Bool) → IfSome (if◌then◌else◌ {A = Option ℕ} back (Some 0) None) (λ class. class < 3)
+    by_test true = omega arith
+    by_test false = tt
+known-below t (suc k) (e ∷ es) = known-below t k es
+
+-- a class other than class 0 has a factor
+pub others-some : (p q : Fraction) → 1 ≤ p.top → 1 ≤ q.top → Any (λ f. 1 ≤ f) (drop 1 (class_factors p q))
+others-some p q hp hq =
+    let some : 1 ≤ p.top * q.top = one-le-mul hp hq in
+    (0, common_factor p q, omega arith, refl, some)

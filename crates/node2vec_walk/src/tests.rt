@@ -1,0 +1,86 @@
+use super::*;
+use csr_store::OutEdge;
+use factor_table::Classes;
+use std::process::Abort;
+use std::test::Fail;
+use walk_model::Fraction;
+
+/// Asserts the factors of the three classes, and the zone.
+fn expect_factors<R: Abort>(rt: &R, p: Fraction, q: Fraction, all: [u64; 3], between: (u64, u64)) {
+    assert!(rt; p.top >= 1 && q.top >= 1);
+    let factors = node_factors(p, q);
+    assert_eq!(rt;
+        [factors.factor(0), factors.factor(1), factors.factor(2)],
+        all
+    );
+    assert_eq!(rt; zone(&factors), between);
+}
+
+#[test]
+fn factors_of_fractions(rt: HostRuntime) -> Result<(), Fail> {
+    expect_factors(
+        &rt,
+        Fraction::of(1, 4),
+        Fraction::of(4, 1),
+        [16, 4, 1],
+        (1, 4),
+    );
+    expect_factors(
+        &rt,
+        Fraction::of(4, 1),
+        Fraction::of(1, 4),
+        [1, 4, 16],
+        (4, 16),
+    );
+    expect_factors(
+        &rt,
+        Fraction::of(1, 1),
+        Fraction::of(1, 1),
+        [1, 1, 1],
+        (1, 1),
+    );
+    let thousandth = Fraction::of(1, 1000);
+    expect_factors(
+        &rt,
+        thousandth,
+        Fraction::of(1000, 1),
+        [1000000, 1000, 1],
+        (1, 1000),
+    );
+    Ok(())
+}
+
+#[test]
+fn classes(rt: HostRuntime) -> Result<(), Fail> {
+    let cases = [
+        (3, 3, true, 0),
+        (3, 3, false, 0),
+        (4, 3, true, 1),
+        (4, 3, false, 2),
+    ];
+    for (x, back, near, class) in cases {
+        assert_eq!(rt; class_of(x, back, near), class);
+    }
+    Ok(())
+}
+
+/// An edge of weight 1 and type 0.
+fn edge(dst: u32) -> OutEdge {
+    OutEdge {
+        dst,
+        kind: 0,
+        weight: 1,
+    }
+}
+
+#[test]
+fn known_classes(rt: HostRuntime) -> Result<(), Fail> {
+    let row = [edge(2), edge(3), edge(3), edge(7)];
+    let classes = NodeClasses { row: &row, back: 3 };
+    let cases = [(0, None), (1, Some(0)), (2, Some(0)), (3, None)];
+    for (place, class) in cases {
+        assert!(rt; place < row.len());
+        assert_eq!(rt; classes.known(place), class);
+    }
+    Ok(())
+}
