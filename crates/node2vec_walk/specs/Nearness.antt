@@ -18,9 +18,13 @@ class_to x t near = if x == t then 0 else (if near then 1 else 2)
 abbrev pub classes_after : List Edge → ℕ → List OutEdge → List ℕ
 classes_after edges t row = map (λ e. class_to e.dst t (has_edge edges t e.dst)) row
 
--- what a row knows of an edge's class by itself: that it is 0, where the edge goes back to t
+-- what is known of the class of an edge to x without asking: that it is 0 where it goes back to t
+abbrev pub known_to : ℕ → ℕ → Option ℕ
+known_to x t = if x == t then Some 0 else None
+
+-- what a row knows of the class of one of its edges
 abbrev pub known_class : ℕ → OutEdge → Option ℕ
-known_class t e = if e.dst == t then Some 0 else None
+known_class t e = known_to e.dst t
 
 -- the factors of the three classes
 abbrev pub class_factors : Fraction → Fraction → List ℕ

@@ -1,8 +1,8 @@
 //! The classes and the factors of node2vec.
 
-ghost use Rattle.std.specs.Prelude.{◌≡◌, ◌≤◌, ◌*◌, drop, map};
+ghost use Rattle.std.specs.Prelude.{◌≡◌, ◌≤◌, ◌<◌, ◌*◌, drop, map, IfSome, IfNone};
 ghost use Rattle.factor_table.specs.Factors.{greatest_of, least_of};
-ghost use Rattle.node2vec_walk.specs.Nearness.{class_to, known_class, class_factors, AreNodeFactors};
+ghost use Rattle.node2vec_walk.specs.Nearness.{class_to, known_to, known_class, class_factors, AreNodeFactors};
 
 use csr_store::OutEdge;
 use factor_table::{Classes, FactorTable};
@@ -56,7 +56,10 @@ impl<'a> Classes for NodeClasses<'a> {
 /// `back` to `x`.
 #[inline]
 pub fn class_of(x: u32, back: u32, near: bool) -> usize
-    ensures { result ≡ class_to x back near }
+    ensures class { result ≡ class_to x back near }
+    ensures below { result < 3 }
+    ensures known { IfSome (known_to x back) (λ class. result ≡ class) }
+    ensures unknown { IfNone (known_to x back) (1 ≤ result) }
 {
     if x == back {
         0

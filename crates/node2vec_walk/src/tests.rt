@@ -1,6 +1,8 @@
+ghost use Rattle.std.specs.Prelude.{◌<◌, length};
+
 use super::*;
 use csr_store::OutEdge;
-use factor_table::Classes;
+use factor_table::{Classes, FactorTable, OneClass, each_class};
 use std::process::Abort;
 use std::test::Fail;
 use walk_model::Fraction;
@@ -81,6 +83,38 @@ fn known_classes(rt: HostRuntime) -> Result<(), Fail> {
     for (place, class) in cases {
         assert!(rt; place < row.len());
         assert_eq!(rt; classes.known(place), class);
+    }
+    Ok(())
+}
+
+/// The greatest factor of the table that serves a step, and whether an edge's class is known.
+fn outlook(
+    row: &[OutEdge],
+    previous: Option<u32>,
+    factors: &FactorTable<3>,
+    edge: usize,
+) -> (u64, bool)
+    requires { edge < length row.now }
+{
+    let one = FactorTable::new([1]);
+    each_class!(previous => {
+        None => (&one, OneClass { len: row.len() }),
+        Some(back) => (factors, NodeClasses { row, back }),
+    } |table, classes| (table.greatest(), classes.known(edge).is_some()))
+}
+
+#[test]
+fn one_body_for_both_tables(rt: HostRuntime) -> Result<(), Fail> {
+    let factors = FactorTable::new([16, 4, 1]);
+    let row = [edge(2), edge(3)];
+    let cases = [
+        (None, 0, (1, true)),
+        (Some(3), 0, (16, false)),
+        (Some(3), 1, (16, true)),
+    ];
+    for (previous, place, expected) in cases {
+        assert!(rt; place < row.len());
+        assert_eq!(rt; outlook(&row, previous, &factors, place), expected);
     }
     Ok(())
 }
