@@ -1,6 +1,6 @@
 -- The greatest and the least of some factors bound them, and are among them.
-use Rattle.std.proofs.Common.{◌≡◌, ℕ, zero, suc, ◌+◌, ◌^◌, ◌<◌, ◌≤◌, List, [], ◌∷◌, length, get_or, drop, refl, arith}
-use Rattle.std.specs.Prelude.{max, min, fold, slice_index, All, Any}
+use Rattle.std.proofs.Common.{◌≡◌, ℕ, zero, suc, ◌<◌, ◌≤◌, List, [], ◌∷◌, length, get_or, drop, arith}
+use Rattle.std.specs.Prelude.{max, min, fold, All, Any}
 use Rattle.std.proofs.Math.Nat.{le-max_left, le-max_right, min-le_left, min-le_right}
 use Rattle.std.proofs.lemmas.List.Elements.{All-head, All-tail, All-drop}
 use Rattle.factor_table.specs.Factors.{greatest_of, least_of}

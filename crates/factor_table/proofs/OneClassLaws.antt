@@ -1,6 +1,6 @@
 -- One class with the factor 1 tells the factors of walks without a rule, and of the first steps of
 -- node2vec.
-use Rattle.std.proofs.Common.{◌≡◌, ℕ, zero, suc, ◌+◌, ◌<◌, List, [], ◌∷◌, length, map, replicate, get_or, refl, arith, ap}
+use Rattle.std.proofs.Common.{◌≡◌, ℕ, zero, suc, ◌<◌, List, [], ◌∷◌, length, map, replicate, get_or, refl, arith, ap}
 use Rattle.std.specs.Prelude.{slice_index, Option, Some, None}
 use Rattle.walk_model.specs.declared.graph.Edge.{Edge}
 use Rattle.walk_model.specs.declared.programme.Fraction.{Fraction}

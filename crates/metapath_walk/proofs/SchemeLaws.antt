@@ -1,14 +1,13 @@
 -- Classes by type tell the factors of a walk by a scheme.
-use Rattle.std.proofs.Common.{◌≡◌, ℕ, zero, suc, ◌+◌, ◌<◌, Bool, true, false, List, [], ◌∷◌, length, map, get_or, refl, arith, ap}
+use Rattle.std.proofs.Common.{◌≡◌, ℕ, zero, suc, ◌<◌, Bool, true, false, List, [], ◌∷◌, length, map, get_or, refl, arith, ap}
 use Rattle.std.specs.Prelude.{◌==◌, if◌then◌else◌, slice_index, Option, Some, None, IfSome, All}
 use Rattle.walk_model.specs.declared.graph.Edge.{Edge}
 use Rattle.walk_model.specs.declared.programme.Rule.TheVariants.{Scheme}
-use Rattle.walk_model.specs.Graph.{row}
 use Rattle.walk_model.specs.Factor.{wanted_kind, factor}
 use Rattle.walk_model.specs.Dart.{height_of}
 use Rattle.csr_store.specs.declared.out_edge.OutEdge.{OutEdge}
 use Rattle.csr_store.specs.OutEdges.{out_edge}
-use Rattle.metapath_walk.specs.TypeClasses.{type_class, type_classes, known_class, AreSchemeFactors}
+use Rattle.metapath_walk.specs.TypeClasses.{type_classes, known_class, AreSchemeFactors}
 
 -- 1 and 0 are the factors of the two classes
 pub scheme_factors-are : AreSchemeFactors (1 ∷ 0 ∷ [])

@@ -1,6 +1,6 @@
 -- Classes by nearness tell the factors of node2vec.
-use Rattle.std.proofs.Common.{◌≡◌, ℕ, zero, suc, ◌+◌, ◌-◌, ◌*◌, ◌<◌, ◌≤◌, ◌⊎◌, inl, inr, Bool, true, false, List, [], ◌∷◌, length, map, drop, get_or, refl, arith, ap}
-use Rattle.std.specs.Prelude.{◌==◌, if◌then◌else◌, max, slice_index, Option, Some, None, IfSome, Any}
+use Rattle.std.proofs.Common.{◌≡◌, ℕ, zero, suc, ◌*◌, ◌<◌, ◌≤◌, ◌⊎◌, inl, inr, Bool, true, false, List, [], ◌∷◌, length, map, drop, get_or, refl, arith, ap}
+use Rattle.std.specs.Prelude.{◌==◌, if◌then◌else◌, slice_index, Option, Some, None, IfSome, Any}
 use Rattle.std.proofs.Math.Nat.{one-le-mul}
 use Rattle.walk_model.specs.declared.graph.Edge.{Edge}
 use Rattle.walk_model.specs.declared.programme.Fraction.{Fraction}
@@ -10,8 +10,7 @@ use Rattle.walk_model.specs.Factor.{factor, node_factor, greatest_factor, return
 use Rattle.walk_model.specs.Dart.{height_of, lift_of}
 use Rattle.csr_store.specs.declared.out_edge.OutEdge.{OutEdge}
 use Rattle.csr_store.specs.OutEdges.{out_edge}
-use Rattle.factor_table.specs.Factors.{greatest_of}
-use Rattle.node2vec_walk.specs.Nearness.{class_to, classes_after, known_class, class_factors, AreNodeFactors}
+use Rattle.node2vec_walk.specs.Nearness.{classes_after, known_class, class_factors, AreNodeFactors}
 
 -- the factors of the three classes are those of the rule
 pub class_factors-are : (p q : Fraction) → AreNodeFactors p q (class_factors p q)

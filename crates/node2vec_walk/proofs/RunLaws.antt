@@ -1,6 +1,6 @@
 -- The edges of a row that are known to go back are those of the previous vertex's run.
-use Rattle.std.proofs.Common.{◌≡◌, ℕ, zero, suc, ◌+◌, ◌<◌, ◌≤◌, ◌↔◌, Bool, true, false, cond, List, [], ◌∷◌, length, map, get_or, Some, None, refl, arith, ◌∙◌, subst, sym}
-use Rattle.std.specs.Prelude.{◌==◌, nat_lt, if◌then◌else◌, count_by, Option}
+use Rattle.std.proofs.Common.{◌≡◌, ℕ, zero, suc, ◌+◌, ◌<◌, ◌≤◌, ◌↔◌, Bool, true, false, List, [], ◌∷◌, length, map, get_or, Some, None, refl, arith}
+use Rattle.std.specs.Prelude.{◌==◌, nat_lt, count_by}
 use Rattle.std.proofs.lemmas.Bool.Decides.{nat_tests}
 use Rattle.walk_model.specs.declared.graph.Edge.{Edge}
 use Rattle.walk_model.specs.Graph.{row, ends_of}
