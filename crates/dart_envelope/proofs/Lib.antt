@@ -1,0 +1,3 @@
+pub mod BoardLaws
+mod AreaLemmas
+mod ScanLemmas

@@ -1,0 +1,8 @@
+use Rattle.dart_envelope.proofs.AreaLemmas.{area-some, area-bound}
+use Rattle.dart_envelope.proofs.board.Board.area.Goals as goal
+
+pub returns-clause-some : goal.returns-clause-some
+returns-clause-some g c = rw (c.self.invariant.places_is) (area-some _ _ c.self.invariant.board)
+
+pub returns-clause-bound : goal.returns-clause-bound
+returns-clause-bound g c = rw (c.self.invariant.places_is) (area-bound _ _ c.self.invariant.board)

@@ -1,0 +1,4 @@
+pub mod ClassBoards
+pub mod Conditions
+pub mod Verdicts
+pub mod Scans
