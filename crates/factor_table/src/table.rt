@@ -47,6 +47,15 @@ impl<const K: usize> FactorTable<K> {
         }
     }
 
+    /// The factors, by class.
+    #[inline]
+    pub fn as_slice(&self) -> &[u64]
+        ensures value { result.now ≡ self.now }
+        ensures classes { length self.now ≡ K }
+    {
+        &self.factors
+    }
+
     /// The factor of a class.
     #[inline]
     pub fn factor(&self, class: usize) -> u64
