@@ -1,2 +1,3 @@
 pub mod FactorLaws
 pub mod OneClassLaws
+pub mod FlatBoardLaws

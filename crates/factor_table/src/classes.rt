@@ -23,6 +23,7 @@ pub struct OneClass {
 impl Classes for OneClass {
     ghost known_classes = { λ row. all_zero row.len };
 
+    #[inline]
     fn known(&self, _edge: usize) -> Option<usize> {
         Some(0)
     }

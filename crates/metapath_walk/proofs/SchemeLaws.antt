@@ -1,10 +1,14 @@
 -- Classes by type tell the factors of a walk by a scheme.
-use Rattle.std.proofs.Common.{◌≡◌, ℕ, zero, suc, ◌<◌, Bool, true, false, List, [], ◌∷◌, length, map, get_or, refl, arith, ap}
+use Rattle.std.proofs.Common.{◌≡◌, ℕ, zero, suc, ◌<◌, Bool, true, false, List, [], ◌∷◌, length, map, get_or, refl, arith, ap, sym, ◌∙◌}
 use Rattle.std.specs.Prelude.{◌==◌, if◌then◌else◌, slice_index, Option, Some, None, IfSome, All}
 use Rattle.walk_model.specs.declared.graph.Edge.{Edge}
 use Rattle.walk_model.specs.declared.programme.Rule.TheVariants.{Scheme}
+use Rattle.walk_model.specs.declared.states.State.{State}
+use Rattle.walk_model.specs.Settings.{Settings}
+use Rattle.walk_model.specs.Graph.{weights_of, ends_of}
 use Rattle.walk_model.specs.Factor.{wanted_kind, factor}
-use Rattle.walk_model.specs.Dart.{height_of}
+use Rattle.walk_model.specs.Dart.{height_of, lift_of, ends_below, ends_at, board_of, darts}
+use Rattle.factor_table.proofs.FlatBoardLaws.{flat_board, darts-flat}
 use Rattle.csr_store.specs.declared.out_edge.OutEdge.{OutEdge}
 use Rattle.csr_store.specs.OutEdges.{out_edge}
 use Rattle.metapath_walk.specs.TypeClasses.{type_classes, known_class, AreSchemeFactors}
@@ -58,3 +62,17 @@ known-below wanted zero (e ∷ es) = by_test (e.kind == wanted)
     by_test true = omega arith
     by_test false = omega arith
 known-below wanted (suc k) (e ∷ es) = known-below wanted k es
+
+-- a choice by a scheme is one by the board of the two classes
+pub darts-scheme : (n : ℕ) (edges : List Edge) (plan : Settings) (s : State) (kinds : List ℕ) (out : List Edge) (words : ℕ → ℕ) (place : ℕ)
+    → plan.rule ≡ Scheme kinds
+    → darts n (board_of edges plan s out) words place
+    ≡ darts n (flat_board (weights_of plan.weighted out)
+    (map (slice_index (1 ∷ 0 ∷ [])) (type_classes (wanted_kind kinds s.phase) (map out_edge out))) 1 0 0) words place
+unfolding board_of height_of lift_of
+darts-scheme n edges plan s kinds out words place is =
+    let ws = weights_of plan.weighted out in
+    rw is
+    (darts-flat n ws (map (factor edges (Scheme kinds) s.previous s.phase) out) 1
+    (ends_below s.previous (ends_of out)) (ends_at s.previous (ends_of out)) words place
+    ∙ sym (ap (λ fs. darts n (flat_board ws fs 1 0 0) words place) (factors-by_type edges kinds s.previous s.phase out)))

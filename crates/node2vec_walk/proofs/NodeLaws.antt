@@ -1,15 +1,18 @@
 -- Classes by nearness tell the factors of node2vec.
-use Rattle.std.proofs.Common.{◌≡◌, ℕ, zero, suc, ◌*◌, ◌<◌, ◌≤◌, ◌⊎◌, inl, inr, Bool, true, false, List, [], ◌∷◌, length, map, drop, get_or, refl, arith, ap}
+use Rattle.std.proofs.Common.{◌≡◌, ℕ, zero, suc, ◌-◌, ◌*◌, ◌<◌, ◌≤◌, ◌⊎◌, inl, inr, Bool, true, false, List, [], ◌∷◌, length, map, drop, get_or, refl, arith, ap}
 use Rattle.std.specs.Prelude.{◌==◌, if◌then◌else◌, slice_index, Option, Some, None, IfSome, Any}
 use Rattle.std.proofs.Math.Nat.{one-le-mul}
 use Rattle.walk_model.specs.declared.graph.Edge.{Edge}
 use Rattle.walk_model.specs.declared.programme.Fraction.{Fraction}
 use Rattle.walk_model.specs.declared.programme.Rule.TheVariants.{Node2vec}
-use Rattle.walk_model.specs.Graph.{has_edge}
+use Rattle.walk_model.specs.declared.states.State.{State}
+use Rattle.walk_model.specs.Settings.{Settings}
+use Rattle.walk_model.specs.Graph.{has_edge, weights_of, ends_of}
 use Rattle.walk_model.specs.Factor.{factor, node_factor, greatest_factor, return_factor, common_factor, far_factor}
-use Rattle.walk_model.specs.Dart.{height_of, lift_of}
+use Rattle.walk_model.specs.Dart.{Board, height_of, lift_of, ends_below, ends_at, board_of}
 use Rattle.csr_store.specs.declared.out_edge.OutEdge.{OutEdge}
 use Rattle.csr_store.specs.OutEdges.{out_edge}
+use Rattle.factor_table.specs.Factors.{greatest_of}
 use Rattle.node2vec_walk.specs.Nearness.{classes_after, known_class, class_factors, AreNodeFactors}
 
 -- the factors of the three classes are those of the rule
@@ -81,3 +84,25 @@ pub others-some : (p q : Fraction) → 1 ≤ p.top → 1 ≤ q.top → Any (λ f
 others-some p q hp hq =
     let some : 1 ≤ p.top * q.top = one-le-mul hp hq in
     (0, common_factor p q, omega arith, refl, some)
+
+-- a board of three classes: the height is the greatest factor of the classes other than class 0, and
+-- the factor of class 0 may rise above it over a run of edges
+abbrev pub node_board : List ℕ → List ℕ → List ℕ → ℕ → ℕ → Board
+node_board weights factors classes from count = record {
+  weights = weights;
+  factors = map (slice_index factors) classes;
+  height = greatest_of (drop 1 factors);
+  lift = slice_index factors 0 - greatest_of (drop 1 factors);
+  back_from = from;
+  back_count = count;
+}
+
+-- the board after a step from t is that of the three classes over the run back to t
+pub board-after : (edges : List Edge) (plan : Settings) (s : State) (p q : Fraction) (t : ℕ) (out : List Edge)
+    → plan.rule ≡ Node2vec p q → s.previous ≡ Some t
+    → board_of edges plan s out
+    ≡ node_board (weights_of plan.weighted out) (class_factors p q) (classes_after edges t (map out_edge out))
+    (ends_below (Some t) (ends_of out)) (ends_at (Some t) (ends_of out))
+unfolding board_of
+board-after edges plan s p q t out is from =
+    rw (is, from, factors-by_class edges p q t s.phase out, (class_factors-are p q).lift t, (class_factors-are p q).height t) refl
