@@ -1,5 +1,5 @@
 -- The plan of a programme, or its first fault.
-use Rattle.std.specs.Prelude.{ℕ, Bool, ◌&&◌, ◌||◌, ◌≤◌, IfSome, if◌then◌else◌, List, codes, Option, Some, None, is_some, is_none, option_and_then, unwrap_or, Result, Ok, Err}
+use Rattle.std.specs.Prelude.{ℕ, ◌&&◌, ◌||◌, ◌≤◌, IfSome, if◌then◌else◌, List, codes, Option, Some, None, is_some, is_none, unwrap_or, Result, Ok, Err}
 use Rattle.std.specs.Option.{ok_or}
 use Rattle.std.specs.Str.{is_utf8}
 use Rattle.toml.specs.Data.{Members, get_member}
@@ -68,10 +68,6 @@ plan_of_table t =
 -- the table of a text that is a TOML document
 unfoldable pub table_of : List ℕ → Option Members
 table_of text = if is_utf8 text then parse_document text else None
-
--- whether a text is a TOML document with a key
-unfoldable pub has_key : List ℕ → List ℕ → Bool
-has_key key text = is_some (option_and_then (get_member key) (table_of text))
 
 -- the plan of a programme, or its first fault
 unfoldable pub plan_of : List ℕ → Result Settings PlanFault

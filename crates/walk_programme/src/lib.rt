@@ -10,4 +10,4 @@ mod tests;
 mod values;
 
 pub use fractions::read_fraction;
-pub use plans::{has_key, read_plan};
+pub use plans::read_plan;

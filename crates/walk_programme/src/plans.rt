@@ -6,13 +6,13 @@ ghost use Rattle.walk_model.specs.Ranges.{rule_in_range, start_in_range};
 ghost use Rattle.walk_model.specs.Settings.{Settings};
 ghost use Rattle.walk_model.specs.declared.faults.PlanFault.{PlanFault};
 ghost use Rattle.walk_programme.specs.Faults.{IsFault};
-ghost use Rattle.walk_programme.specs.Programme.{one, start_of, rule_of, plan_of_values, plan_of_table, plan_of, has_key, unless_unknown, IsInRange};
+ghost use Rattle.walk_programme.specs.Programme.{one, start_of, rule_of, plan_of_values, plan_of_table, plan_of, unless_unknown, IsInRange};
 
 use crate::table::{least_unknown, table_of, value_at};
 use crate::values::{Values, read_values};
 use std::alloc::Global;
 use toml::Table;
-use walk_model::{Fraction, Key, KeyText, Kinds, Memory, Plan, PlanFault, Rule, StartRule};
+use walk_model::{Fraction, Key, KeyText, Kinds, Plan, PlanFault, Rule, StartRule};
 
 /// Where the walkers start.
 fn start_of(walkers: Option<u32>, from: Option<u32>) -> StartRule
@@ -122,16 +122,4 @@ pub fn read_plan(alloc: Global, text: &[u8]) -> Result<Plan, PlanFault>
 {
     let table = table_of(alloc, text)?;
     plan_of_table(alloc, &table)
-}
-
-/// Whether a text is a TOML document that has a key at its top.
-#[tactic(auto, unfolding(crate::specs::Programme::has_key))]
-pub fn has_key(alloc: Global, text: &[u8], key: &str) -> Result<bool, Memory>
-    ensures { IfOk result (λ b. b ≡ has_key key.now text.now) }
-{
-    match table_of(alloc, text) {
-        Ok(table) => Ok(value_at(&table, key).is_some()),
-        Err(PlanFault::Text) => Ok(false),
-        Err(_) => Err(Memory),
-    }
 }

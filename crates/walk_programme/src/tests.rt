@@ -223,21 +223,3 @@ fn fractions(rt: HostRuntime) -> Result<(), Fail> {
     }
     Ok(())
 }
-
-#[test]
-fn keys(rt: HostRuntime) -> Result<(), Fail> {
-    for (text, key, want) in [
-        ("length = 3\np = 1", "p", true),
-        ("length = 3\np = 1", "q", false),
-        ("length = 3\n'q' = \"x\"", "q", true),
-        ("[a]\np = 1", "p", false),
-        ("[p]\na = 1", "p", true),
-        ("", "p", false),
-        ("p = ", "p", false),
-        ("p = 1\np = 2", "p", false),
-    ] {
-        let has = has_key(rt.alloc(), text.as_bytes(), key)?;
-        assert!(rt; has == want, "{text}: {key}");
-    }
-    Ok(())
-}

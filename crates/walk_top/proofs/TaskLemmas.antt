@@ -16,10 +16,11 @@ use Rattle.walk_model.specs.Settings.{Settings}
 use Rattle.walk_model.specs.Graph.{vertices_of}
 use Rattle.walk_model.specs.Walk.{walker_count}
 use Rattle.edge_reader.specs.GraphFile.{graph_of}
+use Rattle.walk_programme.specs.Programme.{plan_of}
 use Rattle.vertex_names.specs.Ranks.{is_name}
 use Rattle.walk_top.specs.Jobs.{Job, Quick, Walk, job, quick_plan, files_of}
 use Rattle.walk_top.specs.Limits.{passed_limit, start_fault, count_fault, overflowing, task_fault}
-use Rattle.walk_top.specs.Verdicts.{Finding, Found, Untold, Task, and_then, unless, job_found, contents_found, graph_found, short_enough, text_plan, named_plan, job_plan, graph_name, named_graph, most_limits, task_of, verdict, MayBe, MayRefuse}
+use Rattle.walk_top.specs.Verdicts.{Finding, Found, Untold, Task, and_then, unless, job_found, contents_found, graph_found, short_enough, plan_found, named_plan, job_plan, graph_name, named_graph, most_limits, task_of, verdict, MayBe, MayRefuse}
 use Rattle.walk_top.specs.Outcomes.{Call, Cause, OfWords, OfFiles, OfReading, OfWriting, OfMemory, cause_of, CameAbout, IsCaused, FailsToRead, without, IsFileOf}
 use Rattle.walk_top.specs.Stages.{Stage, ComesIn, IsFaultIn}
 use Rattle.walk_top.proofs.FindingLemmas.{and_then-maybe, and_then-refused, unless-none, unless-some, job-found}
@@ -55,7 +56,7 @@ contents-open told name later =
 plan-hidden : (told : List ℕ → Told) (j : Job) (hidden : List ℕ) → HidesOrKeeps (λ t. job_plan t j) told hidden
 plan-hidden told (Quick graph seed length) hidden = inr refl
 plan-hidden told (Walk graph programme seed parts workers) hidden =
-    contents-hidden told programme hidden (λ bytes. and_then (short_enough bytes) text_plan)
+    contents-hidden told programme hidden (λ bytes. and_then (short_enough bytes) (λ text. plan_found (plan_of text)))
 
 -- the faults of plan and graph together lie in the files
 abbrev IsOfFiles : WalkFault → Type 0

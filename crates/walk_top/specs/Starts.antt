@@ -1,7 +1,8 @@
 -- Where walkers start, in ranks.
-use Rattle.std.specs.Prelude.{ℕ, ◌≡◌, ◌%◌, ◌<◌, List, map, slice_index}
+use Rattle.std.specs.Prelude.{ℕ, ◌≡◌, ◌%◌, ◌<◌, List, map, slice_index, IfSome}
 use Rattle.walk_model.specs.declared.programme.StartRule.{StartRule}
 use Rattle.walk_model.specs.declared.programme.StartRule.TheVariants.{Each, Spread, From}
+use Rattle.walk_model.specs.declared.states.State.{State}
 use Rattle.walk_model.specs.Settings.{Settings}
 use Rattle.walk_model.specs.Words.{word}
 use Rattle.walk_model.specs.Course.{course}
@@ -20,6 +21,11 @@ abbrev pub StartsIn : StartRule → ℕ → ℕ → Type 0
 StartsIn Each vertices from = Unit {0}
 StartsIn (Spread walkers) vertices from = 0 < walkers → 0 < vertices
 StartsIn (From walkers id) vertices from = 0 < walkers → from < vertices
+
+-- a state stands at a vertex, and the vertex before it, if there is one, is one too
+pub record StandsBelow (vertices : ℕ) (s : State) : Type 0 where
+  pub at : s.at < vertices
+  pub previous : IfSome s.previous (λ t. t < vertices)
 
 -- the plan's own start, if it has one, has this rank
 abbrev pub IsRankOf : StartRule → List ℕ → ℕ → Type 0

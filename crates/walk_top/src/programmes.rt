@@ -1,10 +1,10 @@
 //! Programmes that are read from files.
 
-ghost use Rattle.std.specs.Prelude.{◌≡◌, ◌≤◌, ◌⊎◌, ◌∷◌, [], ℕ, List, length, IfOk, IfErr, option_map};
+ghost use Rattle.std.specs.Prelude.{◌≡◌, ◌≤◌, ◌⊎◌, ◌∷◌, [], ℕ, List, length, IfOk, IfErr};
 ghost use Rattle.walk_io.specs.Files.{Told, IfRead};
 ghost use Rattle.walk_model.specs.declared.faults.WalkFault.TheVariants as fault;
-ghost use Rattle.walk_model.specs.declared.programme.Rule.TheVariants.{Plain};
-ghost use Rattle.walk_top.specs.Verdicts.{Found, MayBe, fault_of_plan, unwalked_key, text_plan, named_plan, job_plan};
+ghost use Rattle.walk_top.specs.Verdicts.{Found, MayBe, fault_of_plan, plan_found, named_plan, job_plan};
+ghost use Rattle.walk_programme.specs.Programme.{plan_of};
 ghost use Rattle.walk_top.specs.Stages.{IsRefusal, IsFaultIn};
 ghost use Rattle.walk_top.specs.TextFaults.{IsTextFault};
 ghost use Rattle.walk_top.specs.Jobs.{quick_plan, files_of};
@@ -14,8 +14,8 @@ use crate::files::read_fault;
 use crate::words::Words;
 use std::alloc::Global;
 use walk_io::Files;
-use walk_model::{Fraction, Key, Limit, Memory, Plan, PlanFault, Rule, StartRule, WalkFault};
-use walk_programme::{has_key, read_plan};
+use walk_model::{Fraction, Limit, Plan, PlanFault, Rule, StartRule, WalkFault};
+use walk_programme::read_plan;
 
 /// How many bytes a programme may have.
 const MOST_BYTES: usize = 65536;
@@ -65,47 +65,21 @@ fn fault_of_plan(fault: PlanFault) -> WalkFault
     }
 }
 
-/// The key by which a programme chooses a rule that isn't walked yet.
-fn unwalked_key(alloc: Global, text: &[u8], rule: &Rule) -> Result<Option<Key>, Memory>
-    ensures { IfOk result (λ k. k ≡ unwalked_key text.now rule.now) }
-{
-    match rule {
-        Rule::Plain => Ok(None),
-        Rule::Scheme { .. } => Ok(Some(Key::Scheme)),
-        Rule::Node2vec { .. } => {
-            if has_key(alloc, text, "p")? {
-                Ok(Some(Key::P))
-            } else {
-                Ok(Some(Key::Q))
-            }
-        }
-    }
-}
-
 /// The plan of a programme's text.
 fn text_plan(alloc: Global, text: &[u8]) -> Result<Plan, WalkFault>
     requires { length text.now ≤ 65536 }
-    ensures plan { IfOk result (λ p. text_plan text.now ≡ Found p) }
-    ensures rule { IfOk result (λ p. p.rule ≡ Plain) }
-    ensures fault { IfErr result (IsRefusal (text_plan text.now)) }
+    ensures plan { IfOk result (λ p. plan_found (plan_of text.now) ≡ Found p) }
+    ensures fault { IfErr result (IsRefusal (plan_found (plan_of text.now))) }
 {
-    let plan = match read_plan(alloc, text) {
-        Ok(plan) => plan,
-        Err(fault) => return Err(fault_of_plan(fault)),
-    };
-    match unwalked_key(alloc, text, &plan.rule) {
-        Ok(None) => Ok(plan),
-        Ok(Some(key)) => Err(WalkFault::Programme {
-            fault: PlanFault::BadValue { key },
-        }),
-        Err(_) => Err(WalkFault::Memory),
+    match read_plan(alloc, text) {
+        Ok(plan) => Ok(plan),
+        Err(fault) => Err(fault_of_plan(fault)),
     }
 }
 
 /// The plan of a programme's file.
 fn read_programme<F: Files>(alloc: Global, files: &mut F, name: &str) -> Result<Plan, WalkFault>
     ensures plan { IfOk result (MayBe (named_plan (F.told files.old) name.now)) }
-    ensures rule { IfOk result (λ p. p.rule ≡ Plain) }
     ensures fault { IfErr result (IsFaultIn (λ told. named_plan told name.now) (record {
       names = name.now ∷ [];
       told = F.told files.old;
@@ -150,7 +124,6 @@ pub(crate) fn find_plan<F: Files>(
 ) -> Result<Plan, WalkFault>
     requires { IsInRange words.now }
     ensures plan { IfOk result (MayBe (job_plan (F.told files.old) (job_of words.now))) }
-    ensures rule { IfOk result (λ p. p.rule ≡ Plain) }
     ensures fault { IfErr result (IsFaultIn (λ told. job_plan told (job_of words.now)) (record {
       names = files_of (job_of words.now);
       told = F.told files.old;

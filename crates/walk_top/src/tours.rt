@@ -1,7 +1,7 @@
 //! Walks over rows and tables, one walker after another.
 
 ghost use Rattle.std.specs.Prelude.{◌≡◌, ◌≤◌, ◌<◌, ◌+◌, ◌*◌, ◌^◌, ℕ, IfOk, length, map, IsTrue};
-ghost use Rattle.walk_model.specs.declared.programme.Rule.TheVariants.{Plain};
+ghost use Rattle.walk_top.specs.RuleFactors.{AreFactors};
 ghost use Rattle.walk_model.specs.Words.{word};
 ghost use Rattle.walk_model.specs.Course.{course};
 ghost use Rattle.walk_model.specs.Walk.{walk, walker_count};
@@ -10,6 +10,7 @@ ghost use Rattle.walk_model.specs.Lists.{item_lists};
 ghost use Rattle.walk_top.specs.Starts.{start_rank, StartsIn, rank_walk, rank_walks};
 
 use crate::grounds::Ground;
+use crate::ruling::{RuleFactors, rule_factors};
 use crate::stepping::step;
 use std::alloc::Global;
 use std::marker::Brand;
@@ -22,11 +23,12 @@ fn tour<L: Ledger>(
     alloc: Global,
     ground: &Ground,
     plan: &Plan,
+    factors: &RuleFactors<'_>,
     start: u32,
     reader: &mut StreamReader,
     steps: &mut Steps<L>,
 ) -> Result<Vec<u32>, Memory>
-    requires rule { plan.now.rule ≡ Plain }
+    requires rule { AreFactors plan.now.rule factors.now }
     requires weighted { ground.now.weighted ≡ plan.now.weighted }
     requires start { start < ground.now.rows.vertices }
     requires fits { (v : ℕ) → v < ground.now.rows.vertices → reach_of ground.now.rows.edges plan.now v ≤ 2 ^ 62 }
@@ -45,7 +47,7 @@ fn tour<L: Ledger>(
         place: 0,
     };
     for _ in 0..length {
-        match step(ground, plan, start, s, reader, steps) {
+        match step(ground, plan, factors, start, s, reader, steps) {
             None => return Ok(path),
             Some(t) => {
                 path.push(t.at)?;
@@ -92,7 +94,6 @@ fn tours_with<L: Ledger>(
     seed: u64,
     steps: &mut Steps<L>,
 ) -> Result<Vec<Vec<u32>>, Memory>
-    requires rule { plan.now.rule ≡ Plain }
     requires weighted { ground.now.weighted ≡ plan.now.weighted }
     requires starts { StartsIn plan.now.start ground.now.rows.vertices from }
     requires fits { (v : ℕ) → v < ground.now.rows.vertices → reach_of ground.now.rows.edges plan.now v ≤ 2 ^ 62 }
@@ -102,12 +103,13 @@ fn tours_with<L: Ledger>(
     let rule = plan.start;
     let count = walkers_of(rule, vertices);
     let mut walks = Vec::with_capacity(alloc, count as usize)?;
+    let factors = rule_factors(&plan.rule);
     let mut reader = Streams::new(seed).reader(0, 0);
     for walker in 0..count {
         let walker = u64::from(walker);
         reader.seek(walker, 0);
         let start = start_of(rule, vertices, from, walker);
-        walks.push(tour(alloc, ground, plan, start, &mut reader, steps)?)?;
+        walks.push(tour(alloc, ground, plan, &factors, start, &mut reader, steps)?)?;
     }
     Ok(walks)
 }
@@ -124,7 +126,6 @@ fn counted_tours<L: Ledger>(
     requires name { blank.name ≡ L.name }
     requires parts { blank.parts ≡ L.parts }
     requires some { 0 < blank.parts }
-    requires rule { plan.now.rule ≡ Plain }
     requires weighted { ground.now.weighted ≡ plan.now.weighted }
     requires starts { StartsIn plan.now.start ground.now.rows.vertices from }
     requires fits { (v : ℕ) → v < ground.now.rows.vertices → reach_of ground.now.rows.edges plan.now v ≤ 2 ^ 62 }
@@ -142,7 +143,6 @@ pub(crate) fn tours(
     from: u32,
     seed: u64,
 ) -> Result<Finished, Memory>
-    requires rule { plan.now.rule ≡ Plain }
     requires weighted { ground.now.weighted ≡ plan.now.weighted }
     requires starts { StartsIn plan.now.start ground.now.rows.vertices from }
     requires fits { (v : ℕ) → v < ground.now.rows.vertices → reach_of ground.now.rows.edges plan.now v ≤ 2 ^ 62 }

@@ -2,45 +2,46 @@ use Rattle.std.proofs.Common.{◌≡◌, ap, ◌∙◌, arith}
 use Rattle.walk_model.specs.Words.{word}
 use Rattle.walk_model.specs.Course.{course}
 use Rattle.walk_model.specs.Graph.{row, weights_of}
-use Rattle.walk_top.proofs.GroundLemmas.{table-some, table-none, taken-long, fits-plain}
-use Rattle.walk_top.proofs.StepLemmas.{chosen-plain, chosen-none}
+use Rattle.walk_top.proofs.GroundLemmas.{table-some, table-none, taken-long}
+use Rattle.walk_top.proofs.StepLemmas.{chosen-some, chosen-nothing, chosen-none}
 use Rattle.walk_top.proofs.stepping.take_edge.Goals as goal
-
-pub choose-edge-requires-clause-fits : goal.choose-edge-requires-clause-fits
-choose-edge-requires-clause-fits g c =
-    let of = c.index.ensures ∙ c.args.ground.now.of_rows.each c.args.s.at c.index.result.now c.requires.at in
-    let same : weights_of c.args.ground.now.weighted (row c.args.ground.now.rows.edges c.args.s.at) ≡ c.in-Some.table = table-some _ _ _ of c.in-Some.is in
-    let here : weights_of c.args.plan.now.weighted (row c.args.ground.now.rows.edges c.args.s.at) ≡ c.in-Some.table = rw c.requires.weighted at same in
-    fits-plain _ _ c.args.plan.now.rule c.requires.rule here c.requires.fits
 
 pub offset_bounds-row-edge : goal.offset_bounds-row-edge
 offset_bounds-row-edge g c =
-    let of = c.index.ensures ∙ c.args.ground.now.of_rows.each c.args.s.at c.index.result.now c.requires.at in
+    let of = c.index.ensures ∙ c.args.ground.now.of_rows.each c.args.s.at c.index.result.now c.requires.stands.at in
     let same : weights_of c.args.ground.now.weighted (row c.args.ground.now.rows.edges c.args.s.at) ≡ c.in-Some.table = table-some _ _ _ of c.in-Some.is in
     let few = c.row.ensures.few in
-    let within = c.choose-edge.ensures.within in
+    let within = c.in-Some-choose_edge.ensures.within in
     let long = taken-long _ _ c.in-Some.table c.row.result.now same c.row.ensures.row in
     omega arith
 
 pub bounds-row-edge : goal.bounds-row-edge
 bounds-row-edge g c =
-    let of = c.index.ensures ∙ c.args.ground.now.of_rows.each c.args.s.at c.index.result.now c.requires.at in
+    let of = c.index.ensures ∙ c.args.ground.now.of_rows.each c.args.s.at c.index.result.now c.requires.stands.at in
     let same : weights_of c.args.ground.now.weighted (row c.args.ground.now.rows.edges c.args.s.at) ≡ c.in-Some.table = table-some _ _ _ of c.in-Some.is in
-    let within = c.choose-edge.ensures.within in
+    let within = c.in-Some-choose_edge.ensures.within in
     let long = taken-long _ _ c.in-Some.table c.row.result.now same c.row.ensures.row in
     omega arith
 
 pub returns-in-None-clause-value : goal.returns-in-None-clause-value
 returns-in-None-clause-value g c = λ start.
-    let of = c.index.ensures ∙ c.args.ground.now.of_rows.each c.args.s.at c.index.result.now c.requires.at in
+    let of = c.index.ensures ∙ c.args.ground.now.of_rows.each c.args.s.at c.index.result.now c.requires.stands.at in
     let none : weights_of c.args.ground.now.weighted (row c.args.ground.now.rows.edges c.args.s.at) ≡ _ = table-none _ _ of c.in-None.is in
     chosen-none (course c.args.ground.now.rows.edges c.args.plan.now (word c.args.reader.now.seed c.args.reader.now.walker) start) c.args.s _ c.args.reader.now.place (rw c.requires.weighted at none)
 
-pub returns-in-Some-clause-value : goal.returns-in-Some-clause-value
-returns-in-Some-clause-value g c = λ start.
-    let of = c.index.ensures ∙ c.args.ground.now.of_rows.each c.args.s.at c.index.result.now c.requires.at in
+pub returns-in-None-choose_edge-clause-value : goal.returns-in-None-choose_edge-clause-value
+returns-in-None-choose_edge-clause-value g c = λ start.
+    let of = c.index.ensures ∙ c.args.ground.now.of_rows.each c.args.s.at c.index.result.now c.requires.stands.at in
+    let same : weights_of c.args.ground.now.weighted (row c.args.ground.now.rows.edges c.args.s.at) ≡ c.in-Some.table = table-some _ _ _ of c.in-Some.is in
+    let here : weights_of c.args.plan.now.weighted (row c.args.ground.now.rows.edges c.args.s.at) ≡ c.in-Some.table = rw c.requires.weighted at same in
+    chosen-nothing (course c.args.ground.now.rows.edges c.args.plan.now (word c.args.reader.now.seed c.args.reader.now.walker) start) c.args.s _ c.args.reader.now.place c.in-Some.table
+    here c.in-None-choose_edge.ensures.edge
+
+pub returns-in-Some-choose_edge-clause-value : goal.returns-in-Some-choose_edge-clause-value
+returns-in-Some-choose_edge-clause-value g c = λ start.
+    let of = c.index.ensures ∙ c.args.ground.now.of_rows.each c.args.s.at c.index.result.now c.requires.stands.at in
     let same : weights_of c.args.ground.now.weighted (row c.args.ground.now.rows.edges c.args.s.at) ≡ c.in-Some.table = table-some _ _ _ of c.in-Some.is in
     let here : weights_of c.args.plan.now.weighted (row c.args.ground.now.rows.edges c.args.s.at) ≡ c.in-Some.table = rw c.requires.weighted at same in
     rw (c.row.ensures.row, c.place.ensures)
-    (chosen-plain (course c.args.ground.now.rows.edges c.args.plan.now (word c.args.reader.now.seed c.args.reader.now.walker) start) c.args.s _ c.args.reader.now.place c.choose-edge.result _ c.plan.inside.retries c.in-Some.table _
-    c.requires.rule here (ap (λ p. p.retries) c.plan.view_is) c.choose-edge.ensures.taken c.choose-edge.ensures.within)
+    (chosen-some (course c.args.ground.now.rows.edges c.args.plan.now (word c.args.reader.now.seed c.args.reader.now.walker) start) c.args.s _ c.args.reader.now.place c.in-Some-choose_edge.edge _ c.in-Some.table _
+    here c.in-Some-choose_edge.ensures.within c.in-Some-choose_edge.ensures.edge)

@@ -2,6 +2,7 @@ use Rattle.std.proofs.Common.{◌≡◌, ◌≤◌, ◌<◌, ◌-◌, ◌*◌, �
 use Rattle.walk_model.specs.Words.{word}
 use Rattle.walk_model.specs.Course.{course}
 use Rattle.walk_model.specs.Walk.{entries_after, walk}
+use Rattle.walk_top.specs.Starts.{StandsBelow}
 use Rattle.walk_top.proofs.tours.tour.Given as goal
 
 abbrev pub invariant-loop : goal.invariant-loop
@@ -9,7 +10,7 @@ invariant-loop g l = record {
   seed : l.reader.seed ≡ l.initial.reader.seed;
   walker : l.reader.walker ≡ l.initial.reader.walker;
   stands : l.s.place ≡ l.reader.place;
-  at : l.s.at < l.ground.rows.vertices;
+  below : StandsBelow l.ground.rows.vertices l.s;
   place : l.s.place ≤ 1192 * l.counter;
   phase : l.s.phase ≤ l.counter;
   steps : l.s.steps ≤ l.counter;
