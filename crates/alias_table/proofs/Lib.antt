@@ -4,4 +4,4 @@ mod WidthLemmas
 mod FillLemmas
 mod TableLemmas
 mod InverseLemmas
-mod ShareLemmas
+pub mod ShareLemmas

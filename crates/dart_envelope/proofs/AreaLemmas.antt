@@ -1,14 +1,14 @@
 -- How many places a board has.
-use Rattle.std.proofs.Common.{◌≡◌, ℕ, zero, suc, ◌+◌, ◌-◌, ◌*◌, ◌/◌, ◌^◌, ◌<◌, ◌≤◌, List, [], ◌∷◌, length, get_or, take, drop, sum, refl, arith, sym, Some, None}
-use Rattle.std.specs.Prelude.{Option, slice_index, Any, All, IfSome, unwrap_or}
+use Rattle.std.proofs.Common.{◌≡◌, ℕ, zero, suc, ◌+◌, ◌-◌, ◌*◌, ◌/◌, ◌^◌, ◌<◌, ◌≤◌, List, [], ◌∷◌, length, get_or, drop, sum, refl, arith, Some, None}
+use Rattle.std.specs.Prelude.{Option, IfSome, unwrap_or}
 use Rattle.std.proofs.lemmas.List.Sums.{sum_by-cons}
 use Rattle.std.proofs.Math.Nat.{mul-le-mul_left, mul-le-mul_right, one-le-mul, div-lt_iff_lt-mul}
-use Rattle.walk_model.specs.Dart.{Board, main_area, area, back_weights}
+use Rattle.walk_model.specs.Dart.{area}
 use Rattle.walk_model.proofs.BoardLemmas.{sum-stretch-le, area-le}
 use Rattle.alias_table.specs.Columns.{IsRow}
-use Rattle.factor_table.specs.Factors.{greatest_of, least_of}
-use Rattle.factor_table.proofs.FactorLaws.{greatest-above, greatest-bound_from, greatest-some}
-use Rattle.dart_envelope.specs.ClassBoards.{ClassBoard, class_board, first_other, height, low, rise, run_from, run_count, run_weights, frame}
+use Rattle.factor_table.specs.Factors.{greatest_of}
+use Rattle.factor_table.proofs.FactorLaws.{greatest-above, greatest-bound_from}
+use Rattle.dart_envelope.specs.ClassBoards.{ClassBoard, first_other, height, rise, run_from, run_count, run_weights, frame}
 use Rattle.dart_envelope.specs.Conditions.{IsBoard, IsReturnRun}
 
 -- a row weighs something

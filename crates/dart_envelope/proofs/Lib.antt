@@ -1,3 +1,4 @@
 pub mod BoardLaws
 mod AreaLemmas
 mod ScanLemmas
+pub mod HitLaws

@@ -1,9 +1,9 @@
 -- What boards may be made of, and what they keep.
 use Rattle.std.specs.Prelude.{◌≡◌, ℕ, ◌*◌, ◌^◌, ◌≤◌, ◌<◌, ◌↔◌, List, length, sum, drop, slice_index_or, Option, Some, None, IfSome, Any}
-use Rattle.walk_model.specs.Dart.{Board, main_area, area}
+use Rattle.walk_model.specs.Dart.{main_area, area}
 use Rattle.alias_table.specs.Columns.{IsRow}
 use Rattle.factor_table.specs.Factors.{greatest_of}
-use Rattle.dart_envelope.specs.ClassBoards.{ClassBoard, height, low, rise, frame, known_at}
+use Rattle.dart_envelope.specs.ClassBoards.{ClassBoard, height, low, rise, frame}
 
 -- each known class has a factor
 abbrev pub HaveFactors : List (Option ℕ) → ℕ → Type 0

@@ -3,7 +3,7 @@ use Rattle.std.specs.Prelude.{◌≡◌, ℕ, ◌+◌, ◌-◌, ◌/◌, ◌%◌
 use Rattle.walk_model.specs.Words.{fold_word}
 use Rattle.walk_model.specs.Lists.{first_above}
 use Rattle.walk_model.specs.Alias.{piece}
-use Rattle.walk_model.specs.Dart.{Board, back_weights, main_area, area, edge_at, hit}
+use Rattle.walk_model.specs.Dart.{back_weights, main_area, area, edge_at, hit}
 use Rattle.dart_envelope.specs.ClassBoards.{ClassBoard, height, low, frame, known_at, board_by, Suits}
 use Rattle.dart_envelope.specs.declared.verdict.Verdict.{Verdict}
 use Rattle.dart_envelope.specs.declared.verdict.Verdict.TheVariants.{Miss, Take, Turned, Need}
@@ -19,7 +19,7 @@ judged b None edge height = if nat_lt height (low b) then Take edge else Need ed
 unfoldable pub verdict_at : ClassBoard → ℕ → Verdict
 verdict_at b x =
     if nat_lt x (main_area (frame b)) then
-      (let edge = piece b.weights (x / height b) in judged b (known_at b edge) edge (x % height b))
+    (let edge = piece b.weights (x / height b) in judged b (known_at b edge) edge (x % height b))
     else Take ((frame b).back_from + first_above ((x - main_area (frame b)) / (frame b).lift / length b.weights) (back_weights (frame b)))
 
 -- the verdict at the place that a word folds to, if it does

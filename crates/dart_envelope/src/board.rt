@@ -6,6 +6,7 @@ ghost use Rattle.walk_model.specs.Dart.{main_area, area};
 ghost use Rattle.factor_table.specs.Factors.{greatest_of, least_of};
 ghost use Rattle.dart_envelope.specs.ClassBoards.{ClassBoard, class_board, first_other, run_weights, rise, frame, known_at};
 ghost use Rattle.dart_envelope.specs.Conditions.{HaveFactors, IsReturnRun};
+ghost use Rattle.dart_envelope.specs.Hits.{HasFairHits};
 ghost use Rattle.dart_envelope.specs.Verdicts.{judged, verdict_at, verdict_of, columns_read, IsWithin, SettlesAt, SettlesTo};
 
 use crate::verdict::Verdict;
@@ -45,7 +46,7 @@ impl<'a, C: Classes, const K: usize> Model for Board<'a, C, K> {
     ghost view = { λ b. class_board b.table.now b.factors.now (C.known_classes b.classes.now) b.back };
 
     ghost invariant = { λ b. IsMade K (class_board b.table.now b.factors.now (C.known_classes b.classes.now) b.back)
-      b.heights.main b.heights.low b.heights.lift b.main b.places };
+        b.heights.main b.heights.low b.heights.lift b.main b.places };
 }
 
 /// The heights of a board.
@@ -60,10 +61,7 @@ struct Heights {
 
 /// The heights of a board over a factor table, with a return class where there is a run of its edges.
 #[inline]
-fn heights_of<const K: usize>(
-    factors: &FactorTable<K>,
-    back: Option<(usize, usize)>,
-) -> Heights
+fn heights_of<const K: usize>(factors: &FactorTable<K>, back: Option<(usize, usize)>) -> Heights
     requires classes { IfSome back (λ run. 2 ≤ K) }
     requires other { IfSome back (λ run. Any (λ factor. 1 ≤ factor) (drop 1 factors.now)) }
     ensures main { result.main ≡ greatest_of (drop (first_other back) factors.now) }
@@ -178,6 +176,7 @@ impl<'a, C: Classes, const K: usize> Board<'a, C, K> {
         ensures within { IsWithin (length self.now.weights) result }
         ensures cost { steps.new ≡ steps.old + columns_read self.now (fold_word (area (frame self.now)) word) }
         ensures hit { SettlesTo self.now word result }
+        ensures fair { HasFairHits self.now }
     {
         match fold(word, self.places) {
             None => Verdict::Miss,

@@ -1,14 +1,15 @@
 //! The scan of a whole row by weight times factor.
 
 ghost use Rattle.std.specs.Prelude.{◌≡◌, ℕ, ◌≤◌, ◌<◌, ◌^◌, List, length};
+ghost use Rattle.dart_envelope.specs.Hits.{HasFairScans};
 ghost use Rattle.dart_envelope.specs.Scans.{AnswersAre, total_of, scan_of};
 
 /// The sum of weight times factor over a row's edges; the closure answers the factor of an edge by
 /// its place. It is at most 2^62.
 pub fn scan_total<F: Fn(usize) -> u64>(weights: &[u64], factors: F) -> u64
     requires callable { (edge : ℕ) → edge < length weights.now → F.pre factors edge }
-    requires fits { (fs : List ℕ) × AnswersAre (λ edge factor. F.post factors edge factor) (length weights.now) fs × (total_of weights.now fs ≤ 2 ^ 62) }
-    ensures { (fs : List ℕ) → AnswersAre (λ edge factor. F.post factors edge factor) (length weights.now) fs → result ≡ total_of weights.now fs }
+    requires fits { (fs : List ℕ) × AnswersAre (F.post factors) (length weights.now) fs × (total_of weights.now fs ≤ 2 ^ 62) }
+    ensures { (fs : List ℕ) → AnswersAre (F.post factors) (length weights.now) fs → result ≡ total_of weights.now fs }
 {
     let mut total = 0u64;
     for (edge, weight) in weights.iter().enumerate() {
@@ -21,8 +22,9 @@ pub fn scan_total<F: Fn(usize) -> u64>(weights: &[u64], factors: F) -> u64
 /// unless that is 0: then there is none.
 pub fn scan<F: Fn(usize) -> u64>(weights: &[u64], factors: F, z: u64) -> Option<usize>
     requires callable { (edge : ℕ) → edge < length weights.now → F.pre factors edge }
-    requires fits { (fs : List ℕ) × AnswersAre (λ edge factor. F.post factors edge factor) (length weights.now) fs × (total_of weights.now fs ≤ 2 ^ 62) × (1 ≤ total_of weights.now fs → z < total_of weights.now fs) }
-    ensures { (fs : List ℕ) → AnswersAre (λ edge factor. F.post factors edge factor) (length weights.now) fs → result ≡ scan_of weights.now fs z }
+    requires fits { (fs : List ℕ) × AnswersAre (F.post factors) (length weights.now) fs × (total_of weights.now fs ≤ 2 ^ 62) × (1 ≤ total_of weights.now fs → z < total_of weights.now fs) }
+    ensures edge { (fs : List ℕ) → AnswersAre (F.post factors) (length weights.now) fs → result ≡ scan_of weights.now fs z }
+    ensures fair { (fs : List ℕ) → AnswersAre (F.post factors) (length weights.now) fs → HasFairScans weights.now fs }
 {
     let mut left = z;
     for (edge, weight) in weights.iter().enumerate() {

@@ -1,7 +1,5 @@
-ghost use Rattle.std.specs.Prelude.{◌≡◌, ◌≤◌, ◌<◌, ◌+◌, ◌*◌, ◌^◌, ℕ, Option, length, sum, slice_get, Some, IfSome};
-ghost use Rattle.alias_table.specs.Columns.{IsRow};
-ghost use Rattle.factor_table.specs.Factors.{greatest_of};
-ghost use Rattle.dart_envelope.specs.Conditions.{HaveFactors, IsReturnRun};
+ghost use Rattle.std.specs.Prelude.{◌≡◌, ◌≤◌, ◌<◌, ◌^◌, length};
+ghost use Rattle.dart_envelope.specs.Scans.{total_of};
 
 use super::*;
 use alias_table::AliasTable;
@@ -10,9 +8,10 @@ use std::marker::Brand;
 use std::process::Abort;
 use std::sync::ledger::{Blank, Ledger};
 use std::test::Fail;
-use walk_model::Steps;
+use walk_model::{Memory, Steps};
 
 /// The classes of a row as a list tells them.
+#[derive(Clone, Copy)]
 struct Listed<'a> {
     known: &'a [Option<usize>],
 }
@@ -31,29 +30,26 @@ fn expect_verdicts<C: Classes, L: Ledger, R: Abort, const K: usize>(
     board: &Board<C, K>,
     area: u64,
     cases: &[(u64, Verdict)],
-    blank: Blank,
-)
-    requires name { blank.name ≡ L.name }
-    requires parts { blank.parts ≡ L.parts }
-    requires some { 0 < blank.parts }
-{
-    let mut steps = Steps::<L>::new(blank);
+    steps: &mut Steps<L>,
+) {
     let places = board.area();
     assert_eq!(rt; places, area);
     for (word, verdict) in cases {
-        let found = board.throw(*word, &mut steps);
+        let found = board.throw(*word, steps);
         assert_eq!(rt; found, *verdict);
     }
 }
 
-#[test]
-fn no_word_misses(rt: HostRuntime) -> Result<(), Fail> {
+fn no_word_misses<L: Ledger, R: Abort + AllocGlobal>(
+    rt: &R,
+    steps: &mut Steps<L>,
+) -> Result<(), Memory> {
     let table = AliasTable::build(rt.alloc(), &[1152921504606846976, 1152921504606846976])?;
     let factors = FactorTable::new([1]);
     let classes = OneClass { len: 2 };
     let board = Board::new(&table, &factors, &classes, None);
-    expect_verdicts::<_, Brand, _, _>(
-        &rt,
+    expect_verdicts(
+        rt,
         &board,
         4611686018427387904,
         &[
@@ -61,21 +57,23 @@ fn no_word_misses(rt: HostRuntime) -> Result<(), Fail> {
             (2305843009213693952, Verdict::Take { edge: 1 }),
             (18446744073709551615, Verdict::Take { edge: 1 }),
         ],
-        Blank::new(1),
+        steps,
     );
     Ok(())
 }
 
-#[test]
-fn classes_without_a_return(rt: HostRuntime) -> Result<(), Fail> {
+fn classes_without_a_return<L: Ledger, R: Abort + AllocGlobal>(
+    rt: &R,
+    steps: &mut Steps<L>,
+) -> Result<(), Memory> {
     let table = AliasTable::build(rt.alloc(), &[5, 4, 1])?;
     let factors = FactorTable::new([0, 2, 3]);
     let classes = Listed {
         known: &[Some(0), Some(1), Some(2)],
     };
     let board = Board::new(&table, &factors, &classes, None);
-    expect_verdicts::<_, Brand, _, _>(
-        &rt,
+    expect_verdicts(
+        rt,
         &board,
         90,
         &[
@@ -84,21 +82,23 @@ fn classes_without_a_return(rt: HostRuntime) -> Result<(), Fail> {
             (18446744073709551600, Verdict::Miss),
             (18446744073709551615, Verdict::Miss),
         ],
-        Blank::new(1),
+        steps,
     );
     Ok(())
 }
 
-#[test]
-fn a_return_edge(rt: HostRuntime) -> Result<(), Fail> {
+fn a_return_edge<L: Ledger, R: Abort + AllocGlobal>(
+    rt: &R,
+    steps: &mut Steps<L>,
+) -> Result<(), Memory> {
     let table = AliasTable::build(rt.alloc(), &[1, 1, 1])?;
     let factors = FactorTable::new([16, 4, 1]);
     let classes = Listed {
         known: &[Some(0), None, None],
     };
     let board = Board::new(&table, &factors, &classes, Some((0, 1)));
-    expect_verdicts::<_, Brand, _, _>(
-        &rt,
+    expect_verdicts(
+        rt,
         &board,
         72,
         &[
@@ -112,15 +112,19 @@ fn a_return_edge(rt: HostRuntime) -> Result<(), Fail> {
             (71, Verdict::Take { edge: 0 }),
             (18446744073709551600, Verdict::Miss),
         ],
-        Blank::new(1),
+        steps,
     );
-    assert!(rt; board.settle(1, 1, 1));
-    assert!(rt; !board.settle(2, 1, 2));
+    let near = board.settle(1, 1, 1);
+    assert!(rt; near);
+    let far = board.settle(2, 1, 2);
+    assert!(rt; !far);
     Ok(())
 }
 
-#[test]
-fn two_return_edges(rt: HostRuntime) -> Result<(), Fail> {
+fn two_return_edges<L: Ledger, R: Abort + AllocGlobal>(
+    rt: &R,
+    steps: &mut Steps<L>,
+) -> Result<(), Memory> {
     let table = AliasTable::build(rt.alloc(), &[2, 3])?;
     let factors = FactorTable::new([16, 4, 1]);
     let classes = Listed {
@@ -128,8 +132,8 @@ fn two_return_edges(rt: HostRuntime) -> Result<(), Fail> {
     };
     let board = Board::new(&table, &factors, &classes, Some((0, 2)));
     // 40 places of the main part, and 120 of the strip: 12 for each of the 10 places of the columns
-    expect_verdicts::<_, Brand, _, _>(
-        &rt,
+    expect_verdicts(
+        rt,
         &board,
         160,
         &[
@@ -138,30 +142,67 @@ fn two_return_edges(rt: HostRuntime) -> Result<(), Fail> {
             (88, Verdict::Take { edge: 1 }),
             (159, Verdict::Take { edge: 1 }),
         ],
-        Blank::new(1),
+        steps,
     );
     Ok(())
 }
 
+/// Throws at each of the boards.
+fn throw_at_all<L: Ledger, R: Abort + AllocGlobal>(rt: &R, blank: Blank) -> Result<(), Memory>
+    requires name { blank.name ≡ L.name }
+    requires parts { blank.parts ≡ L.parts }
+    requires some { 0 < blank.parts }
+{
+    let mut steps = Steps::<L>::new(blank);
+    no_word_misses(rt, &mut steps)?;
+    classes_without_a_return(rt, &mut steps)?;
+    a_return_edge(rt, &mut steps)?;
+    two_return_edges(rt, &mut steps)
+}
+
+#[test]
+fn throws(rt: HostRuntime) -> Result<(), Fail> {
+    throw_at_all::<Brand, HostRuntime>(&rt, Blank::new(1))?;
+    Ok(())
+}
+
+/// Asserts the total of a scan and the edges that it gives below that.
+fn expect_scans<R: Abort>(
+    rt: &R,
+    weights: &[u64],
+    factors: &[u64],
+    total: u64,
+    cases: &[(u64, Option<usize>)],
+)
+    requires same { length factors.now ≡ length weights.now }
+    requires fits { total_of weights.now factors.now ≤ 2 ^ 62 }
+{
+    let found = scan_total(weights, |edge| factors[edge]);
+    assert_eq!(rt; found, total);
+    for (z, edge) in cases {
+        if *z < found || found == 0 {
+            let first = scan(weights, |edge| factors[edge], *z);
+            assert_eq!(rt; first, *edge);
+        }
+    }
+}
+
+#[tactic(auto, unfolding(walk_model::specs::Lists::products))]
 #[test]
 fn scans(rt: HostRuntime) -> Result<(), Fail> {
-    let weights = [1, 1, 1];
-    let factor = |edge: usize| -> u64
-        ensures { result ≤ 16 }
-    {
-        match edge {
-            0 => 16,
-            1 => 4,
-            _ => 1,
-        }
-    };
-    assert_eq!(rt; scan_total(&weights, factor), 21);
-    assert_eq!(rt; scan(&weights, factor, 0), Some(0));
-    assert_eq!(rt; scan(&weights, factor, 15), Some(0));
-    assert_eq!(rt; scan(&weights, factor, 16), Some(1));
-    assert_eq!(rt; scan(&weights, factor, 19), Some(1));
-    assert_eq!(rt; scan(&weights, factor, 20), Some(2));
-    assert_eq!(rt; scan_total(&weights, |_| 0), 0);
-    assert_eq!(rt; scan(&weights, |_| 0, 0), None);
+    expect_scans(
+        &rt,
+        &[1, 1, 1],
+        &[16, 4, 1],
+        21,
+        &[
+            (0, Some(0)),
+            (15, Some(0)),
+            (16, Some(1)),
+            (19, Some(1)),
+            (20, Some(2)),
+        ],
+    );
+    expect_scans(&rt, &[1, 1, 1], &[0, 0, 0], 0, &[(0, None)]);
     Ok(())
 }

@@ -381,14 +381,14 @@ fn writes_fail(rt: HostRuntime) -> Result<(), Fail> {
     Ok(())
 }
 
-/// Asserts how great factors may be beside weights; for a test once `walk` takes `p` and `q`.
-fn expect_factors_up_to_the_overflow<R: Abort + AllocGlobal>(rt: &R) -> Result<(), Memory> {
+#[test]
+fn factors_up_to_the_overflow(rt: HostRuntime) -> Result<(), Fail> {
     let alloc = rt.alloc();
     let programme = "length = 1; p = '1/1000'; q = '1000'";
     let most = repeated(alloc, "0 1 4294967295\n", 32)?;
-    expect_walk(rt, most.as_str(), programme, 0, "0 1\n1\n", "")?;
+    expect_walk(&rt, most.as_str(), programme, 0, "0 1\n1\n", "")?;
     let more = repeated(alloc, "0 1 4294967295\n", 33)?;
     let line = "error: overflow at vertex 0\n";
-    expect_walk(rt, more.as_str(), programme, 5, "", line)?;
+    expect_walk(&rt, more.as_str(), programme, 5, "", line)?;
     Ok(())
 }

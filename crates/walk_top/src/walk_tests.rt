@@ -266,10 +266,10 @@ fn walks_are_those_of_the_definition(rt: HostRuntime) -> Result<(), Fail> {
     Ok(())
 }
 
-/// Asserts it of rules that look at types and at the previous vertex; for a test once `walk` takes them.
-fn expect_other_rules<R: Abort + AllocGlobal>(rt: &R) -> Result<(), Memory> {
+#[test]
+fn walks_by_nearness_are_those_of_the_definition(rt: HostRuntime) -> Result<(), Fail> {
     expect_all_plain(
-        rt,
+        &rt,
         &[
             // near and far edges shunned or sought, and the way back
             "length = 20; undirected = true; p = '0.25'; q = 4",
@@ -290,6 +290,16 @@ fn expect_other_rules<R: Abort + AllocGlobal>(rt: &R) -> Result<(), Memory> {
             "length = 20; undirected = true; p = 1; q = 1",
             "length = 20; undirected = true; p = '1/3'; q = 3; restart = '1/5'; stop = '1/20'",
             "length = 9; undirected = true; q = '0.5'; walkers = 20; from = 3; restart = '1/2'",
+        ],
+    )?;
+    Ok(())
+}
+
+#[test]
+fn walks_by_types_are_those_of_the_definition(rt: HostRuntime) -> Result<(), Fail> {
+    expect_all_plain(
+        &rt,
+        &[
             // one type, types in turn, and types that no edge or few edges have
             "length = 20; scheme = [0]",
             "length = 20; scheme = [1, 0]",
@@ -305,8 +315,8 @@ fn expect_other_rules<R: Abort + AllocGlobal>(rt: &R) -> Result<(), Memory> {
     Ok(())
 }
 
-/// Asserts walks by those rules by example; for a test once `walk` takes them.
-fn expect_examples_of_other_rules<R: Abort + AllocGlobal>(rt: &R) -> Result<(), Memory> {
+#[test]
+fn walks_by_rules_by_example(rt: HostRuntime) -> Result<(), Fail> {
     let typed = "0 1 1 4\n1 2 1 5\n2 0 1 4\n";
     for (graph, programme, out) in [
         (CYCLE, "length = 3; scheme = [4]", "0\n1\n2\n"),
@@ -319,10 +329,10 @@ fn expect_examples_of_other_rules<R: Abort + AllocGlobal>(rt: &R) -> Result<(), 
             "0 1 2 0\n1 2 0 1\n2 0 1 2\n",
         ),
     ] {
-        expect_walk(rt, graph, programme, 0, out, "")?;
+        expect_walk(&rt, graph, programme, 0, out, "")?;
     }
     expect_plain(
-        rt,
+        &rt,
         &PATH[..3],
         "length = 12; undirected = true; p = '0.25'; q = '4'",
     )?;

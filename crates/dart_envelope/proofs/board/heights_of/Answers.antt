@@ -1,4 +1,4 @@
-use Rattle.std.proofs.Common.{◌≡◌, ◌+◌, ◌-◌, ◌≤◌, arith, drop, Some}
+use Rattle.std.proofs.Common.{arith, drop, Some}
 use Rattle.factor_table.proofs.FactorLaws.{greatest-some}
 use Rattle.dart_envelope.proofs.AreaLemmas.{rise-within}
 use Rattle.dart_envelope.proofs.board.heights_of.Goals as goal

@@ -5,5 +5,5 @@ use Rattle.dart_envelope.proofs.scanning.scan.Given as goal
 
 abbrev pub invariant-loop-edge : goal.invariant-loop-edge
 invariant-loop-edge g l =
-    (fs : List ℕ) → AnswersAre (λ edge factor. goal.F-post g l.factors edge factor) (length l.weights) fs
+    (fs : List ℕ) → AnswersAre (goal.F-post g l.factors) (length l.weights) fs
     → IsScanned l.weights fs l.z l.left l.edge

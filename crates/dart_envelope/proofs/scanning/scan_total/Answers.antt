@@ -1,4 +1,4 @@
-use Rattle.std.proofs.Common.{◌≡◌, ◌≤◌, ◌+◌, length, get_or, arith}
+use Rattle.std.proofs.Common.{arith}
 use Rattle.dart_envelope.proofs.ScanLemmas.{total-split, total-end}
 use Rattle.dart_envelope.proofs.scanning.scan_total.Goals as goal
 

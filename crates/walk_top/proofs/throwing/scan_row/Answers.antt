@@ -74,7 +74,7 @@ returns-clause-edge g c =
     ∙ ap (λ (ws : List ℕ). total_of ws fs) c.weights-weights.ensures.value in
     let some : (c.scan_total-total.result == 0) ≡ false = (let e = c.if-total-eq0.false in grind (arith, nat_tests)) in
     let found : c.scan.result ≡ scan_of c.args.table.now fs c.draw.result =
-    c.scan.ensures fs
+    c.scan.ensures.edge fs
     (answers-are _ c.weights-weights.result.now c.args.table.now c.as_slice-by_class.result.now c.args.factors.now classes
     c.weights-weights.ensures.value c.as_slice-by_class.ensures.value c.requires.row.suits.long (λ edge factor said. said))
     ∙ ap (λ (ws : List ℕ). scan_of ws fs c.draw.result) c.weights-weights.ensures.value in
@@ -92,7 +92,7 @@ returns-clause-within g c =
     c.weights-weights.ensures.value c.as_slice-by_class.ensures.value c.requires.row.suits.long (λ edge factor said. said))
     ∙ ap (λ (ws : List ℕ). total_of ws fs) c.weights-weights.ensures.value in
     let found : c.scan.result ≡ scan_of c.args.table.now fs c.draw.result =
-    c.scan.ensures fs
+    c.scan.ensures.edge fs
     (answers-are _ c.weights-weights.result.now c.args.table.now c.as_slice-by_class.result.now c.args.factors.now classes
     c.weights-weights.ensures.value c.as_slice-by_class.ensures.value c.requires.row.suits.long (λ edge factor said. said))
     ∙ ap (λ (ws : List ℕ). scan_of ws fs c.draw.result) c.weights-weights.ensures.value in

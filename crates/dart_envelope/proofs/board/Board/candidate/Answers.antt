@@ -1,7 +1,6 @@
-use Rattle.std.proofs.Common.{◌≡◌, ℕ, ◌<◌, ◌≤◌, ◌*◌, ◌/◌, ◌%◌, List, length, sum, ap, sym, ◌∙◌, Some, arith}
+use Rattle.std.proofs.Common.{◌≡◌, ℕ, ◌<◌, ◌*◌, ◌/◌, ◌%◌, List, length, sum, ap, ◌∙◌}
 use Rattle.walk_model.specs.Alias.{piece}
-use Rattle.walk_model.specs.Dart.{main_area}
-use Rattle.dart_envelope.specs.ClassBoards.{ClassBoard, height, frame, known_at}
+use Rattle.dart_envelope.specs.ClassBoards.{ClassBoard, height, known_at}
 use Rattle.dart_envelope.specs.Verdicts.{judged}
 use Rattle.dart_envelope.proofs.AreaLemmas.{div-below}
 use Rattle.dart_envelope.proofs.BoardLaws.{verdict-main, main-settles}

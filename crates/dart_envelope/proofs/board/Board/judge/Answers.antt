@@ -1,4 +1,4 @@
-use Rattle.std.proofs.Common.{◌≡◌, ◌<◌, ◌≤◌, get_or, sym, ap, ◌∙◌, Some, arith}
+use Rattle.std.proofs.Common.{◌<◌, ◌≤◌, get_or, sym, ap, ◌∙◌}
 use Rattle.std.specs.Prelude.{slice_get}
 use Rattle.dart_envelope.specs.ClassBoards.{ClassBoard, low}
 use Rattle.dart_envelope.proofs.BoardLaws.{judged-take, judged-turned, judged-any, judged-need}

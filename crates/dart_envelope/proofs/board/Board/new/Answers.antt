@@ -1,4 +1,4 @@
-use Rattle.std.proofs.Common.{◌≡◌, ◌<◌, ◌≤◌, ◌+◌, ◌-◌, ◌*◌, ◌^◌, length, sum, refl, sym, ap, ◌∙◌, Some, None, arith}
+use Rattle.std.proofs.Common.{◌^◌, length, sum, refl, arith}
 use Rattle.factor_table.specs.Factors.{greatest_of}
 use Rattle.dart_envelope.proofs.AreaLemmas.{parts-within, strip-within}
 use Rattle.dart_envelope.proofs.board.Board.new.Goals as goal
@@ -10,7 +10,7 @@ overflow_cast-main g c =
     let main = heights.within in
     let some = heights.some in
     let parts = parts-within (length ws) (sum ws) c.heights_of-heights.result.main (greatest_of c.args.factors.now) (2 ^ 62)
-        c.weights-weights.ensures.range.some some (omega arith) c.requires.fits in
+    c.weights-weights.ensures.range.some some (omega arith) c.requires.fits in
     rw (c.sum.ensures.value) (omega (arith, parts.0))
 
 pub overflow_mul-main : goal.overflow_mul-main
@@ -20,7 +20,7 @@ overflow_mul-main g c =
     let main = heights.within in
     let some = heights.some in
     let parts = parts-within (length ws) (sum ws) c.heights_of-heights.result.main (greatest_of c.args.factors.now) (2 ^ 62)
-        c.weights-weights.ensures.range.some some (omega arith) c.requires.fits in
+    c.weights-weights.ensures.range.some some (omega arith) c.requires.fits in
     rw (c.weights-weights.ensures.value, c.sum.ensures.value) (omega (arith, parts.1))
 
 pub overflow_mul-main-2 : goal.overflow_mul-main-2
@@ -30,7 +30,7 @@ overflow_mul-main-2 g c =
     let main = heights.within in
     let some = heights.some in
     let parts = parts-within (length ws) (sum ws) c.heights_of-heights.result.main (greatest_of c.args.factors.now) (2 ^ 62)
-        c.weights-weights.ensures.range.some some (omega arith) c.requires.fits in
+    c.weights-weights.ensures.range.some some (omega arith) c.requires.fits in
     rw (c.weights-weights.ensures.value, c.sum.ensures.value) (omega (arith, parts.2))
 
 pub strip_places-requires-clause-sum : goal.strip_places-requires-clause-sum
@@ -40,7 +40,7 @@ strip_places-requires-clause-sum g c =
     let main = heights.within in
     let some = heights.some in
     let parts = parts-within (length ws) (sum ws) c.heights_of-heights.result.main (greatest_of c.args.factors.now) (2 ^ 62)
-        c.weights-weights.ensures.range.some some (omega arith) c.requires.fits in
+    c.weights-weights.ensures.range.some some (omega arith) c.requires.fits in
     rw (c.weights-weights.ensures.value) (omega (arith, parts.0))
 
 pub strip_places-requires-clause-fits : goal.strip_places-requires-clause-fits
@@ -50,7 +50,7 @@ strip_places-requires-clause-fits g c =
     let main = heights.within in
     let some = heights.some in
     let parts = parts-within (length ws) (sum ws) c.heights_of-heights.result.main (greatest_of c.args.factors.now) (2 ^ 62)
-        c.weights-weights.ensures.range.some some (omega arith) c.requires.fits in
+    c.weights-weights.ensures.range.some some (omega arith) c.requires.fits in
     let strip = strip-within ws c.args.back c.heights_of-heights.result.main c.heights_of-heights.result.lift (greatest_of c.args.factors.now) heights.within c.requires.fits in
     rw (c.weights-weights.ensures.value) (omega (arith, strip))
 
@@ -61,7 +61,7 @@ overflow_add-result g c =
     let main = heights.within in
     let some = heights.some in
     let parts = parts-within (length ws) (sum ws) c.heights_of-heights.result.main (greatest_of c.args.factors.now) (2 ^ 62)
-        c.weights-weights.ensures.range.some some (omega arith) c.requires.fits in
+    c.weights-weights.ensures.range.some some (omega arith) c.requires.fits in
     let strip = strip-within ws c.args.back c.heights_of-heights.result.main c.heights_of-heights.result.lift (greatest_of c.args.factors.now) heights.within c.requires.fits in
     rw (c.strip_places.ensures, c.weights-weights.ensures.value, c.sum.ensures.value) (omega (arith, strip))
 
@@ -72,7 +72,7 @@ invariant_of-result g c =
     let main = heights.within in
     let some = heights.some in
     let parts = parts-within (length ws) (sum ws) c.heights_of-heights.result.main (greatest_of c.args.factors.now) (2 ^ 62)
-        c.weights-weights.ensures.range.some some (omega arith) c.requires.fits in
+    c.weights-weights.ensures.range.some some (omega arith) c.requires.fits in
     let strip = strip-within ws c.args.back c.heights_of-heights.result.main c.heights_of-heights.result.lift (greatest_of c.args.factors.now) heights.within c.requires.fits in
     let fs = c.as_slice.ensures in
     rw (fs.value)

@@ -1,6 +1,6 @@
-use Rattle.std.proofs.Common.{◌≡◌, ◌<◌, ◌≤◌, ◌+◌, ◌-◌, ◌*◌, ◌/◌, length, sum, sym, ap, ◌∙◌, Some, None, arith}
+use Rattle.std.proofs.Common.{◌≡◌, ◌-◌, ◌/◌, length, sum, ap, ◌∙◌, arith}
 use Rattle.std.specs.Prelude.{unwrap_or}
-use Rattle.walk_model.specs.Dart.{main_area, area}
+use Rattle.walk_model.specs.Dart.{main_area}
 use Rattle.dart_envelope.specs.ClassBoards.{ClassBoard, frame, run_weights}
 use Rattle.dart_envelope.proofs.AreaLemmas.{strip-place, run-is, run-within}
 use Rattle.dart_envelope.proofs.BoardLaws.{verdict-strip, strip-settles}

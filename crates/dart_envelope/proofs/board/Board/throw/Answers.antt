@@ -1,9 +1,10 @@
-use Rattle.std.proofs.Common.{◌≡◌, ◌<◌, ◌≤◌, ◌+◌, sym, ap, ◌∙◌, Some, None, arith}
+use Rattle.std.proofs.Common.{◌≡◌, ◌<◌, ◌≤◌, sym, ap, ◌∙◌, Some, None, arith}
 use Rattle.walk_model.specs.Words.{fold_word}
 use Rattle.walk_model.specs.Dart.{main_area, area}
 use Rattle.dart_envelope.specs.ClassBoards.{frame}
 use Rattle.dart_envelope.proofs.AreaLemmas.{area-some, area-bound}
 use Rattle.dart_envelope.proofs.BoardLaws.{verdict-miss, miss-settles, verdict-place, place-settles, read-none, read-main, read-strip}
+use Rattle.dart_envelope.proofs.HitLaws.{fair-hits}
 use Rattle.dart_envelope.proofs.board.Board.throw.Goals as goal
 
 pub fold-requires-clause-some : goal.fold-requires-clause-some
@@ -88,3 +89,18 @@ returns-in-Some-2-clause-hit g c =
     let folds : Some c.in-Some.place ≡ fold_word (area (frame b)) c.args.word =
     sym c.in-Some.is ∙ c.fold.ensures.value ∙ ap (λ n. fold_word n c.args.word) made.places_is in
     place-settles b c.args.word c.in-Some.place c.return_edge.result folds c.return_edge.ensures.settles
+
+pub returns-in-None-clause-fair : goal.returns-in-None-clause-fair
+returns-in-None-clause-fair g c =
+    let made = rw c.self.view_is at c.self.invariant in
+    fair-hits _ c.args.self.now made.board
+
+pub returns-in-Some-clause-fair : goal.returns-in-Some-clause-fair
+returns-in-Some-clause-fair g c =
+    let made = rw c.self.view_is at c.self.invariant in
+    fair-hits _ c.args.self.now made.board
+
+pub returns-in-Some-2-clause-fair : goal.returns-in-Some-2-clause-fair
+returns-in-Some-2-clause-fair g c =
+    let made = rw c.self.view_is at c.self.invariant in
+    fair-hits _ c.args.self.now made.board
