@@ -77,37 +77,37 @@ fn programmes_may_be_so_long(rt: HostRuntime) -> Result<(), Fail> {
     Ok(())
 }
 
+/// Too many path entries come after a bad line, and before a start that is missing and an overflow.
 #[test]
-fn graphs_are_refused_in_order(rt: HostRuntime) -> Result<(), Fail> {
-    let alloc = rt.alloc();
-    let entries = "length = 1048576; walkers = 128; from = 7";
-    let heavy = repeated(alloc, "0 1 4294967295\n", 32769)?;
+fn too_many_entries_are_refused(rt: HostRuntime) -> Result<(), Fail> {
+    let entries = "length = 1048576; walkers = 128";
+    let without_start = "length = 1048576; walkers = 128; from = 7";
+    let line = "error: limit: path entries\n";
+    let heavy = repeated(rt.alloc(), "0 1 4294967295\n", 32769)?;
+    expect_walk(&rt, "0 1\n1 x\n", entries, 4, "", "error: line 2: number\n")?;
+    for (graph, programme) in [
+        (CYCLE, entries),
+        ("", entries),
+        (CYCLE, without_start),
+        (heavy.as_str(), without_start),
+    ] {
+        expect_walk(&rt, graph, programme, 5, "", line)?;
+    }
+    Ok(())
+}
+
+/// A start that is missing comes before an overflow.
+#[test]
+fn missing_starts_and_overflows_are_refused(rt: HostRuntime) -> Result<(), Fail> {
+    let heavy = repeated(rt.alloc(), "0 1 4294967295\n", 32769)?;
     let heavy = heavy.as_str();
     for (graph, programme, status, line) in [
-        // a bad line before too many entries
-        ("0 1\n1 x\n", entries, 4, "error: line 2: number\n"),
-        // too many entries before a start that is missing
-        (CYCLE, entries, 5, "error: limit: path entries\n"),
-        (
-            CYCLE,
-            "length = 1048576; walkers = 128",
-            5,
-            "error: limit: path entries\n",
-        ),
-        (
-            "",
-            "length = 1048576; walkers = 128",
-            5,
-            "error: limit: path entries\n",
-        ),
-        // a start that is missing before an overflow
         (
             heavy,
             "length = 1; walkers = 1; from = 7",
             5,
             "error: no start 7\n",
         ),
-        (heavy, entries, 5, "error: limit: path entries\n"),
         (heavy, "length = 1", 5, "error: overflow at vertex 0\n"),
         (
             heavy,
@@ -246,59 +246,42 @@ fn reads_fail_in_order(rt: HostRuntime) -> Result<(), Fail> {
             5,
             "error: no start 7\n",
         ),
-        // files that aren't there
-        ("walk g b --seed 7", bad, "foo = 1", 9, 6, "error: read b\n"),
+    ] {
+        expect_refusal(&rt, words, graph, programme, &[failing], status, line)?;
+    }
+    Ok(())
+}
+
+/// Files that aren't there, and one file that is both programme and graph.
+#[test]
+fn missing_files_are_told(rt: HostRuntime) -> Result<(), Fail> {
+    let bad = "0 1\n1 x\n";
+    for (words, programme, status, line) in [
+        ("walk g b --seed 7", "foo = 1", 6, "error: read b\n"),
         (
             "walk a p --seed 7",
-            bad,
             "foo = 1",
-            9,
             3,
             "error: programme: unknown key foo\n",
         ),
-        (
-            "walk a p --seed 7",
-            bad,
-            "length = 1",
-            9,
-            6,
-            "error: read a\n",
-        ),
-        (
-            "walk a b --seed 7",
-            bad,
-            "length = 1",
-            9,
-            6,
-            "error: read b\n",
-        ),
-        (
-            "walk - p --seed 7",
-            bad,
-            "length = 1",
-            9,
-            6,
-            "error: read -\n",
-        ),
+        ("walk a p --seed 7", "length = 1", 6, "error: read a\n"),
+        ("walk a b --seed 7", "length = 1", 6, "error: read b\n"),
+        ("walk - p --seed 7", "length = 1", 6, "error: read -\n"),
         // one file as programme and graph
         (
             "walk p p --seed 7",
-            bad,
             "length = 1",
-            9,
             4,
             "error: line 1: number\n",
         ),
         (
             "walk g g --seed 7",
-            bad,
             "length = 1",
-            9,
             3,
             "error: programme: text\n",
         ),
     ] {
-        expect_refusal(&rt, words, graph, programme, &[failing], status, line)?;
+        expect_refusal(&rt, words, bad, programme, &[], status, line)?;
     }
     Ok(())
 }

@@ -223,95 +223,83 @@ fn expect_plain<R: Abort + AllocGlobal>(
     }
 }
 
-/// Asserts it of each programme on each graph.
-fn expect_all_plain<R: Abort + AllocGlobal>(rt: &R, programmes: &[&str]) -> Result<(), Memory> {
-    for programme in programmes {
-        expect_plain(rt, &TANGLE, programme)?;
-        expect_plain(rt, &PATH, programme)?;
-        expect_plain(rt, &WHEEL, programme)?;
+/// Plans of every rule.
+const PLANS: [&str; 45] = [
+    "length = 20",
+    "length = 20; weighted = false",
+    "length = 20; undirected = true",
+    "length = 20; undirected = true; weighted = false",
+    // every step by the scan, and by darts alone as a rule
+    "length = 20; undirected = true; retries = 0",
+    "length = 20; undirected = true; retries = 0; weighted = false",
+    "length = 20; undirected = true; retries = 1",
+    "length = 20; undirected = true; retries = 1000",
+    // coins that fall seldom, often, always and never
+    "length = 20; stop = '1/10'",
+    "length = 20; undirected = true; stop = '0.25'",
+    "length = 20; restart = '1/3'",
+    "length = 20; undirected = true; restart = '0.999999'",
+    "length = 20; restart = 1; stop = '1/1000000'",
+    "length = 20; undirected = true; restart = '1/4'; stop = '1/16'; retries = 0",
+    "length = 20; stop = 0; restart = 0",
+    "length = 20; stop = 1",
+    // more walkers than vertices, fewer, and all from one vertex
+    "length = 9; walkers = 40; undirected = true",
+    "length = 9; walkers = 3",
+    "length = 9; walkers = 20; from = 3; undirected = true",
+    "length = 9; walkers = 20; from = 8; restart = '1/2'; stop = '1/8'; weighted = false",
+    // near and far edges shunned or sought, and the way back
+    "length = 20; undirected = true; p = '0.25'; q = 4",
+    "length = 20; undirected = true; p = 4; q = '0.25'",
+    "length = 20; p = '1/1000'; q = 1000",
+    "length = 20; undirected = true; p = '1/1000'; q = 1000; retries = 1",
+    "length = 20; undirected = true; p = 1000; q = '1/1000'; retries = 1",
+    "length = 20; undirected = true; p = 1000; q = 1000",
+    "length = 20; undirected = true; p = '1/1000'; q = '1/1000'",
+    // every step by the scan, and by darts alone as a rule
+    "length = 20; undirected = true; p = '2/3'; q = '5/7'; retries = 0",
+    "length = 20; undirected = true; p = 1000; q = '1/1000'; retries = 1000",
+    "length = 20; undirected = true; p = '1/1000'; retries = 0; weighted = false",
+    // equal factors: near and far, near and back, and all three
+    "length = 20; undirected = true; p = '1/7'",
+    "length = 20; undirected = true; p = 7",
+    "length = 20; undirected = true; q = '3/2'",
+    "length = 20; undirected = true; p = 1; q = 1",
+    "length = 20; undirected = true; p = '1/3'; q = 3; restart = '1/5'; stop = '1/20'",
+    "length = 9; undirected = true; q = '0.5'; walkers = 20; from = 3; restart = '1/2'",
+    // one type, types in turn, and types that no edge or few edges have
+    "length = 20; scheme = [0]",
+    "length = 20; scheme = [1, 0]",
+    "length = 20; undirected = true; scheme = [0, 1]",
+    "length = 20; undirected = true; scheme = [0, 1]; retries = 0",
+    "length = 20; undirected = true; scheme = [0, 0, 1]; retries = 1; weighted = false",
+    "length = 20; undirected = true; scheme = [1, 0]; retries = 1000",
+    "length = 20; undirected = true; scheme = [0, 1, 2]",
+    "length = 20; scheme = [255]",
+    "length = 20; undirected = true; scheme = [0, 1]; restart = '1/3'; stop = '1/20'",
+];
+
+/// The lines of a woven graph of forty vertices with three edges each.
+fn woven(alloc: Global) -> Result<Vec<Line>, Memory> {
+    let mut lines = Vec::new(alloc);
+    for v in 0..40u32 {
+        for j in 0..3u32 {
+            let to = (v + 1 + 5 * j + v * j % 7) % 40;
+            lines.push((v, to, u64::from(1 + (v + 3 * j) % 7), (j % 4) as u8))?;
+        }
     }
-    Ok(())
+    Ok(lines)
 }
 
 #[test]
 fn walks_are_those_of_the_definition(rt: HostRuntime) -> Result<(), Fail> {
-    expect_all_plain(
-        &rt,
-        &[
-            "length = 20",
-            "length = 20; weighted = false",
-            "length = 20; undirected = true",
-            "length = 20; undirected = true; weighted = false",
-            // every step by the scan, and by darts alone as a rule
-            "length = 20; undirected = true; retries = 0",
-            "length = 20; undirected = true; retries = 0; weighted = false",
-            "length = 20; undirected = true; retries = 1",
-            "length = 20; undirected = true; retries = 1000",
-            // coins that fall seldom, often, always and never
-            "length = 20; stop = '1/10'",
-            "length = 20; undirected = true; stop = '0.25'",
-            "length = 20; restart = '1/3'",
-            "length = 20; undirected = true; restart = '0.999999'",
-            "length = 20; restart = 1; stop = '1/1000000'",
-            "length = 20; undirected = true; restart = '1/4'; stop = '1/16'; retries = 0",
-            "length = 20; stop = 0; restart = 0",
-            "length = 20; stop = 1",
-            // more walkers than vertices, fewer, and all from one vertex
-            "length = 9; walkers = 40; undirected = true",
-            "length = 9; walkers = 3",
-            "length = 9; walkers = 20; from = 3; undirected = true",
-            "length = 9; walkers = 20; from = 8; restart = '1/2'; stop = '1/8'; weighted = false",
-        ],
-    )?;
-    Ok(())
-}
-
-#[test]
-fn walks_by_nearness_are_those_of_the_definition(rt: HostRuntime) -> Result<(), Fail> {
-    expect_all_plain(
-        &rt,
-        &[
-            // near and far edges shunned or sought, and the way back
-            "length = 20; undirected = true; p = '0.25'; q = 4",
-            "length = 20; undirected = true; p = 4; q = '0.25'",
-            "length = 20; p = '1/1000'; q = 1000",
-            "length = 20; undirected = true; p = '1/1000'; q = 1000; retries = 1",
-            "length = 20; undirected = true; p = 1000; q = '1/1000'; retries = 1",
-            "length = 20; undirected = true; p = 1000; q = 1000",
-            "length = 20; undirected = true; p = '1/1000'; q = '1/1000'",
-            // every step by the scan, and by darts alone as a rule
-            "length = 20; undirected = true; p = '2/3'; q = '5/7'; retries = 0",
-            "length = 20; undirected = true; p = 1000; q = '1/1000'; retries = 1000",
-            "length = 20; undirected = true; p = '1/1000'; retries = 0; weighted = false",
-            // equal factors: near and far, near and back, and all three
-            "length = 20; undirected = true; p = '1/7'",
-            "length = 20; undirected = true; p = 7",
-            "length = 20; undirected = true; q = '3/2'",
-            "length = 20; undirected = true; p = 1; q = 1",
-            "length = 20; undirected = true; p = '1/3'; q = 3; restart = '1/5'; stop = '1/20'",
-            "length = 9; undirected = true; q = '0.5'; walkers = 20; from = 3; restart = '1/2'",
-        ],
-    )?;
-    Ok(())
-}
-
-#[test]
-fn walks_by_types_are_those_of_the_definition(rt: HostRuntime) -> Result<(), Fail> {
-    expect_all_plain(
-        &rt,
-        &[
-            // one type, types in turn, and types that no edge or few edges have
-            "length = 20; scheme = [0]",
-            "length = 20; scheme = [1, 0]",
-            "length = 20; undirected = true; scheme = [0, 1]",
-            "length = 20; undirected = true; scheme = [0, 1]; retries = 0",
-            "length = 20; undirected = true; scheme = [0, 0, 1]; retries = 1; weighted = false",
-            "length = 20; undirected = true; scheme = [1, 0]; retries = 1000",
-            "length = 20; undirected = true; scheme = [0, 1, 2]",
-            "length = 20; scheme = [255]",
-            "length = 20; undirected = true; scheme = [0, 1]; restart = '1/3'; stop = '1/20'",
-        ],
-    )?;
+    let woven = woven(rt.alloc())?;
+    for programme in PLANS {
+        expect_plain(&rt, &TANGLE, programme)?;
+        expect_plain(&rt, &PATH, programme)?;
+        expect_plain(&rt, &WHEEL, programme)?;
+        expect_plain(&rt, &woven, programme)?;
+    }
     Ok(())
 }
 
