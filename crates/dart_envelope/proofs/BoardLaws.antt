@@ -1,19 +1,16 @@
 -- What a verdict says of a dart on the board of a row, whatever classes its edges may have.
-use Rattle.std.proofs.Common.{◌≡◌, ℕ, ◌+◌, ◌-◌, ◌/◌, ◌%◌, ◌<◌, ◌≤◌, Bool, true, false, List, length, get_or, map, drop, length-drop, refl, arith, ap, sym, ◌∙◌, Some, None}
-use Rattle.std.specs.Prelude.{Option, nat_lt, if◌then◌else◌, slice_index, slice_get, ◌==◌}
+use Rattle.std.proofs.Common.{◌≡◌, ℕ, ◌+◌, ◌-◌, ◌/◌, ◌%◌, ◌<◌, ◌≤◌, Bool, true, false, List, length, get_or, map, drop, length-drop, refl, arith, ap, sym, Some, None}
+use Rattle.std.specs.Prelude.{Option, nat_lt, if◌then◌else◌, slice_index, slice_get}
 use Rattle.std.proofs.lemmas.Bool.Decides.{nat_tests}
 use Rattle.std.proofs.lemmas.Option.{get_or_from_slice_get}
-use Rattle.std.proofs.lemmas.List.{get_or-map, get_or-drop, get_or-replicate, length-replicate}
-use Rattle.walk_model.specs.Lists.{first_above, products}
-use Rattle.walk_model.specs.Words.{fold_word, draw}
+use Rattle.std.proofs.lemmas.List.{get_or-map, get_or-drop}
+use Rattle.walk_model.specs.Lists.{first_above}
+use Rattle.walk_model.specs.Words.{fold_word}
 use Rattle.walk_model.specs.Alias.{piece}
-use Rattle.walk_model.specs.Dart.{Board, back_weights, main_area, area, edge_at, taken_at, hit, scan_total, scanned}
-use Rattle.factor_table.specs.KnownClasses.{all_zero}
+use Rattle.walk_model.specs.Dart.{back_weights, main_area, area, edge_at, taken_at, hit}
 use Rattle.factor_table.specs.Factors.{least_of}
 use Rattle.factor_table.proofs.FactorLaws.{least-below}
-use Rattle.dart_envelope.specs.ClassBoards.{ClassBoard, frame, height, low, first_other, known_at, MayHave, Suits}
-use Rattle.dart_envelope.specs.Conditions.{HaveFactors}
-use Rattle.dart_envelope.specs.Scans.{scan_of}
+use Rattle.dart_envelope.specs.ClassBoards.{ClassBoard, frame, height, low, first_other, known_at, MayHave}
 use Rattle.dart_envelope.specs.Verdicts.{judged, verdict_at, verdict_of, settled, columns_read, SettlesAt, SettlesTo}
 use Rattle.dart_envelope.specs.declared.verdict.Verdict.{Verdict}
 use Rattle.dart_envelope.specs.declared.verdict.Verdict.TheVariants.{Miss, Take, Turned, Need}
@@ -150,39 +147,3 @@ read-main b x o folds inside = rw (← folds, lt-true x (main_area (frame b)) in
 pub read-strip : (b : ClassBoard) (x : ℕ) (o : Option ℕ) → Some x ≡ o → main_area (frame b) ≤ x → columns_read b o ≡ 0
 unfolding columns_read
 read-strip b x o folds past = rw (← folds, lt-false x (main_area (frame b)) past) refl
-
--- where the class of each edge is known, the known classes suit the board
-pub suits-known : (b : ClassBoard) (classes : List ℕ) → b.known ≡ map Some classes → length classes ≡ length b.weights
-    → ((edge : ℕ) → edge < length b.weights → get_or classes edge 0 < length b.factors) → Suits b classes
-suits-known b classes known long below = record {
-  long = long;
-  below = below;
-  may = λ edge inside.
-      let told : known_at b edge ≡ Some (get_or classes edge 0) =
-      ap (λ k. get_or k edge None) known ∙ get_or-map Some classes edge 0 None (omega (arith, long, inside)) in
-      rw told refl;
-}
-
--- a row whose edges all have class 0 has the factors of that class
-pub all_zero-have : (n count : ℕ) → 1 ≤ count → HaveFactors (all_zero n) count
-all_zero-have n count some edge inside =
-    let long : length (all_zero n) ≡ n = length-replicate {A = Option ℕ} n (Some 0) in
-    rw (get_or-replicate {A = Option ℕ} n edge (Some 0) None (omega (arith, long, inside))) some
-
--- a scan after the darts gives the edge that its first number finds, and the next place
-pub scanned-found : (b : Board) (words : ℕ → ℕ) (place edge : ℕ)
-    → Some edge ≡ scan_of b.weights b.factors (draw (scan_total b) words place).0
-    → scanned b words place ≡ Some (edge, (draw (scan_total b) words place).1)
-unfolding scanned scan_of
-scanned-found b words place edge found =
-    let drawn = draw (scan_total b) words place in
-    sym (both (scan_total b == 0) edge (first_above drawn.0 (products b.weights b.factors)) drawn.1 found)
-  where
-    both : (t : Bool) (edge first next : ℕ) → Some edge ≡ (if t then None else Some first) → ◌≡◌ {A = Option (ℕ × ℕ)} (Some (edge, next)) (if t then None else Some (first, next))
-    both true edge first next h = cc
-    both false edge first next h = let same : edge ≡ first = cc in rw same refl
-
--- and none where nothing has a weight
-pub scanned-nothing : (b : Board) (words : ℕ → ℕ) (place : ℕ) → scan_total b ≡ 0 → scanned b words place ≡ None
-unfolding scanned
-scanned-nothing b words place none = rw none refl

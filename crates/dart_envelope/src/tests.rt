@@ -62,6 +62,17 @@ fn no_word_misses<L: Ledger, R: Abort + AllocGlobal>(
     Ok(())
 }
 
+fn one_edge<L: Ledger, R: Abort + AllocGlobal>(rt: &R, steps: &mut Steps<L>) -> Result<(), Memory> {
+    let table = AliasTable::build(rt.alloc(), &[1])?;
+    let factors = FactorTable::new([1]);
+    let classes = OneClass { len: 1 };
+    let board = Board::new(&table, &factors, &classes, None);
+    let taken = Verdict::Take { edge: 0 };
+    let cases = [(0, taken), (7, taken), (18446744073709551615, taken)];
+    expect_verdicts(rt, &board, 1, &cases, steps);
+    Ok(())
+}
+
 fn classes_without_a_return<L: Ledger, R: Abort + AllocGlobal>(
     rt: &R,
     steps: &mut Steps<L>,
@@ -154,6 +165,7 @@ fn throw_at_all<L: Ledger, R: Abort + AllocGlobal>(rt: &R, blank: Blank) -> Resu
     requires some { 0 < blank.parts }
 {
     let mut steps = Steps::<L>::new(blank);
+    one_edge(rt, &mut steps)?;
     no_word_misses(rt, &mut steps)?;
     classes_without_a_return(rt, &mut steps)?;
     a_return_edge(rt, &mut steps)?;
