@@ -10,7 +10,8 @@ use Rattle.walk_model.specs.Alias.{own, filler, alias, piece, lacks, spares}
 use Rattle.alias_table.specs.Columns.{IsRow}
 use Rattle.alias_table.specs.Filled.{IsColumn, AllFilled}
 use Rattle.alias_table.proofs.SumLemmas.{sum-lacks, lack_at, length-lacks, length-spares, front-more, front-le, front-all, sum-equal, sum-bound}
-use Rattle.alias_table.proofs.FrontLemmas.{first_above-within, front_reaching-within, own-light, own-heavy, filler-light, filler-heavy}
+use Rattle.walk_model.proofs.NumberLemmas.{first_above-within}
+use Rattle.alias_table.proofs.FrontLemmas.{front_reaching-within, own-light, own-heavy, filler-light, filler-heavy}
 
 -- the sum of a row that a table may have
 pub sum-some : (ws : List ℕ) → IsRow ws → 0 < sum ws

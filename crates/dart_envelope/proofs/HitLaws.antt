@@ -12,7 +12,7 @@ use Rattle.walk_model.specs.Alias.{piece}
 use Rattle.walk_model.specs.Dart.{Board, main_area, area, back_weights, edge_at, taken_at, hit}
 use Rattle.walk_model.proofs.CountLemmas.{count_below-add, count_below-same, count_below-none, count_below-rounds}
 use Rattle.walk_model.proofs.PieceLemmas.{count_below-grid, count_below-column, sum_below-same}
-use Rattle.outlier_strip.proofs.RunLemmas.{first_above-within}
+use Rattle.walk_model.proofs.NumberLemmas.{first_above-within}
 use Rattle.walker_stream.specs.Folds.{passes}
 use Rattle.alias_table.proofs.ShareLemmas.{piece-shares}
 use Rattle.factor_table.specs.Factors.{greatest_of}

@@ -1,6 +1,6 @@
 //! The scan of a whole row by weight times factor.
 
-ghost use Rattle.std.specs.Prelude.{◌≡◌, ℕ, ◌≤◌, ◌<◌, ◌^◌, List, length};
+ghost use Rattle.std.specs.Prelude.{◌≡◌, ℕ, ◌≤◌, ◌<◌, ◌^◌, List, length, IfSome};
 ghost use Rattle.dart_envelope.specs.Hits.{HasFairScans};
 ghost use Rattle.dart_envelope.specs.Scans.{AnswersAre, total_of, scan_of};
 
@@ -24,6 +24,7 @@ pub fn scan<F: Fn(usize) -> u64>(weights: &[u64], factors: F, z: u64) -> Option<
     requires callable { (edge : ℕ) → edge < length weights.now → F.pre factors edge }
     requires fits { (fs : List ℕ) × AnswersAre (F.post factors) (length weights.now) fs × (total_of weights.now fs ≤ 2 ^ 62) × (1 ≤ total_of weights.now fs → z < total_of weights.now fs) }
     ensures edge { (fs : List ℕ) → AnswersAre (F.post factors) (length weights.now) fs → result ≡ scan_of weights.now fs z }
+    ensures within { IfSome result (λ edge. edge < length weights.now) }
     ensures fair { (fs : List ℕ) → AnswersAre (F.post factors) (length weights.now) fs → HasFairScans weights.now fs }
 {
     let mut left = z;

@@ -1,1 +1,1 @@
-pub mod RunLemmas
+mod RunLemmas

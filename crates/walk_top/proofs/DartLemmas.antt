@@ -30,28 +30,6 @@ darts-spent : (n : ℕ) (b : Board) (words : ℕ → ℕ) (place : ℕ) → n �
 unfolding darts
 darts-spent n b words place e = rw e refl
 
--- the place of a number below the sum is one of the list
-pub first_above-within : (z : ℕ) (ws : List ℕ) → z < sum ws → first_above z ws < length ws
-unfolding first_above
-first_above-within z [] low = absurd (omega arith)
-first_above-within z (w ∷ ws) low =
-    let whole : sum (w ∷ ws) ≡ w + sum ws = sum_by-cons (λ x. x) w ws in
-    let cases : (b : Bool) → nat_lt z w ≡ b → (if b then 0 else suc (first_above (z - w) ws)) < suc (length ws) = λ b.
-    elim b as (λ v. nat_lt z w ≡ v → (if v then 0 else suc (first_above (z - w) ws)) < suc (length ws)) [
-      | true ↦ λ h. omega arith
-      | false ↦ λ h.
-          let past : w ≤ z = grind (arith, nat_tests) in
-          let later = first_above-within (z - w) ws (omega arith) in
-          omega (arith, later)
-    ] in
-    cases (nat_lt z w) refl
-
-length-products : (ws fs : List ℕ) → length fs ≡ length ws → length (products ws fs) ≡ length ws
-unfolding products
-length-products [] fs same = refl
-length-products (w ∷ ws) [] same = absurd (omega arith)
-length-products (w ∷ ws) (f ∷ fs) same = ap suc (length-products ws fs (omega (arith, same)))
-
 -- the class that was asked
 pub class-is : (classes : List ℕ) (edge class : ℕ) → Some class ≡ slice_get classes edge → slice_index classes edge ≡ class
 class-is classes edge class told = get_or_from_slice_get classes edge class 0 (sym told)
@@ -125,17 +103,6 @@ unfolding scanned
 scanned-none b words place total whole none =
     let light : (total_of b.weights b.factors == 0) ≡ true = rw whole at none in
     rw light refl
-
--- what a scan gives is an edge of the row
-pub scan-within : (ws fs : List ℕ) (z : ℕ) (o : Option ℕ) → length fs ≡ length ws → z < total_of ws fs → o ≡ scan_of ws fs z
-    → IfSome o (λ edge. edge < length ws)
-unfolding scan_of
-scan-within ws fs z o long low is =
-    let heavy : (total_of ws fs == 0) ≡ false = grind (arith, nat_tests) in
-    let found : o ≡ Some (first_above z (products ws fs)) = rw heavy at is in
-    let within : first_above z (products ws fs) < length (products ws fs) = first_above-within z (products ws fs) low in
-    let size : length (products ws fs) ≡ length ws = length-products ws fs long in
-    rw found (omega (arith, within, size))
 
 -- a dart among others that hits
 pub dart-taken : (n i : ℕ) (b : Board) (words : ℕ → ℕ) (from place next edge : ℕ) → i < n

@@ -1,5 +1,6 @@
 use Rattle.std.proofs.Common.{◌≡◌, ◌/◌, sum}
-use Rattle.outlier_strip.proofs.RunLemmas.{first_above-within, div-below}
+use Rattle.walk_model.proofs.NumberLemmas.{first_above-within}
+use Rattle.outlier_strip.proofs.RunLemmas.{div-below}
 use Rattle.outlier_strip.proofs.strip.strip_pick.Goals as goal
 
 pub returns-in-Ok-clause-within : goal.returns-in-Ok-clause-within

@@ -5,7 +5,7 @@ use Rattle.std.proofs.lemmas.List.{length-map}
 use Rattle.walk_model.specs.Words.{word}
 use Rattle.dart_envelope.specs.ClassBoards.{class_board, board_by}
 use Rattle.dart_envelope.specs.Scans.{total_of, scan_of}
-use Rattle.walk_top.proofs.DartLemmas.{answers-are, total-fits, scanned-none, scanned-some, scan-within}
+use Rattle.walk_top.proofs.DartLemmas.{answers-are, total-fits, scanned-none, scanned-some}
 use Rattle.walk_top.proofs.throwing.scan_row.Goals as goal
 
 pub scan_total-total-requires-clause-fits : goal.scan_total-total-requires-clause-fits
@@ -83,18 +83,4 @@ returns-clause-edge g c =
     c.draw.ensures.value found
 
 pub returns-clause-within : goal.returns-clause-within
-returns-clause-within g c =
-    let classes : List ℕ = g.C.RowClasses.classes c.args.classes.now in
-    let fs : List ℕ = map (slice_index c.args.factors.now) classes in
-    let whole : c.scan_total-total.result ≡ total_of c.args.table.now fs =
-    c.scan_total-total.ensures fs
-    (answers-are _ c.weights-weights.result.now c.args.table.now c.as_slice-by_class.result.now c.args.factors.now classes
-    c.weights-weights.ensures.value c.as_slice-by_class.ensures.value c.requires.row.suits.long (λ edge factor said. said))
-    ∙ ap (λ (ws : List ℕ). total_of ws fs) c.weights-weights.ensures.value in
-    let found : c.scan.result ≡ scan_of c.args.table.now fs c.draw.result =
-    c.scan.ensures.edge fs
-    (answers-are _ c.weights-weights.result.now c.args.table.now c.as_slice-by_class.result.now c.args.factors.now classes
-    c.weights-weights.ensures.value c.as_slice-by_class.ensures.value c.requires.row.suits.long (λ edge factor said. said))
-    ∙ ap (λ (ws : List ℕ). scan_of ws fs c.draw.result) c.weights-weights.ensures.value in
-    let low : c.draw.result < total_of c.args.table.now fs = (let e = c.draw.ensures.within in omega (arith, e, whole)) in
-    scan-within c.args.table.now fs c.draw.result c.scan.result (length-map classes (slice_index c.args.factors.now) ∙ c.requires.row.suits.long) low found
+returns-clause-within g c = rw (← c.weights-weights.ensures.value) c.scan.ensures.within
