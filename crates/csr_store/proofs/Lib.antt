@@ -4,3 +4,4 @@ pub mod RowLaws
 pub mod SearchLemmas
 pub mod FillLemmas
 pub mod StoreLemmas
+pub mod EndLemmas

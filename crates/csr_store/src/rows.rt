@@ -1,6 +1,6 @@
 //! Rows, as they are built and asked.
 
-ghost use Rattle.std.specs.Prelude.{◌≡◌, ◌≤◌, ◌<◌, ◌+◌, ◌^◌, ℕ, length, map, IfOk, All, Some};
+ghost use Rattle.std.specs.Prelude.{◌≡◌, ◌≤◌, ◌<◌, ◌+◌, ◌^◌, ℕ, length, map, slice_index, IfOk, All, Some};
 ghost use Rattle.walk_model.specs.Graph.{row, has_edge, ends_of};
 ghost use Rattle.walk_model.specs.Dart.{ends_below as below, ends_at as at};
 ghost use Rattle.csr_store.specs.OutEdges.{out_edge};
@@ -17,11 +17,15 @@ use std::marker::Model;
 use walk_model::{Edge, Memory};
 
 /// The edges of a graph in rows, seen as its edges, row by row, and the number of its vertices.
+///
+/// An edge takes 20 bytes: its destination stands a second time in a list of its own, since a step
+/// along an edge reads nothing else of it.
 #[derive(Debug, Drop)]
 pub struct Rows {
     vertices: u32,
     starts: Vec<u32>,
     out: Vec<OutEdge>,
+    ends: Vec<u32>,
 }
 
 impl Model for Rows {
@@ -43,6 +47,14 @@ const BLANK: OutEdge = OutEdge {
     weight: 1,
 };
 
+/// The destinations of edges, one after another.
+fn destinations(alloc: Global, out: &[OutEdge]) -> Result<Vec<u32>, Memory>
+    ensures { IfOk result (λ r. r.items ≡ map (λ e. e.dst) out.now) }
+{
+    let ends = out.iter().map(|e| e.dst).collect(alloc)?;
+    Ok(ends)
+}
+
 /// Counts the edges of each vertex, puts them in its row, and sorts each row.
 fn stored(alloc: Global, edges: &[Edge], vertices: u32) -> Result<Rows, Memory>
     requires ends { All (λ e. (e.src < vertices) × (e.dst < vertices)) edges.now }
@@ -54,10 +66,12 @@ fn stored(alloc: Global, edges: &[Edge], vertices: u32) -> Result<Rows, Memory>
     let mut out = vec![in alloc; BLANK; edges.len()]?;
     fill(edges, &mut starts, &mut out);
     sort_rows(alloc, &starts, &mut out)?;
+    let ends = destinations(alloc, &out)?;
     Ok(Rows {
         vertices,
         starts,
         out,
+        ends,
     })
 }
 
@@ -94,7 +108,32 @@ impl Rows {
         self.out.len() as u64
     }
 
+    /// The destinations of the edges from a vertex, in their order.
+    #[inline]
+    fn ends_from(&self, v: u32) -> &[u32]
+        requires { v < self.now.vertices }
+        ensures ends { result.now ≡ ends_of (row self.now.edges v) }
+        ensures few { length result.now < 2 ^ 31 }
+        ensures below { All (λ t. t < self.now.vertices) result.now }
+    {
+        let v = v as usize;
+        let (from, to) = (self.starts[v], self.starts[v + 1]);
+        &self.ends[from as usize..to as usize]
+    }
+
+    /// The destination of the edge at a place of the row of `v`.
+    #[inline]
+    pub fn end(&self, v: u32, edge: usize) -> u32
+        requires vertex { v < self.now.vertices }
+        requires edge { edge < length (row self.now.edges v) }
+        ensures end { result ≡ slice_index (ends_of (row self.now.edges v)) edge }
+        ensures below { result < self.now.vertices }
+    {
+        self.ends_from(v)[edge]
+    }
+
     /// The edges from a vertex by destination, then type, then place in the list.
+    #[inline]
     pub fn row(&self, v: u32) -> &[OutEdge]
         requires { v < self.now.vertices }
         ensures row { result.now ≡ map out_edge (row self.now.edges v) }

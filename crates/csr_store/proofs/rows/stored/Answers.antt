@@ -1,7 +1,8 @@
-use Rattle.std.proofs.Common.{◌≡◌, length, ap, sym, ◌∙◌, arith, subst, refl}
+use Rattle.std.proofs.Common.{◌≡◌, length, map, ap, sym, ◌∙◌, arith, subst, refl}
 use Rattle.std.specs.Vec.{with_items}
 use Rattle.std.specs.List.Sorted.{IsNonDecreasing}
 use Rattle.std.proofs.lemmas.List.{with_items_is}
+use Rattle.csr_store.specs.declared.out_edge.OutEdge.{OutEdge}
 use Rattle.csr_store.proofs.StoreLemmas.{AreEdges, AreRows, AreRows-at, AreRows-same, AreRows-has, AreRows-length, stored, starts-rise, built}
 use Rattle.csr_store.proofs.rows.stored.Goals as goal
 
@@ -15,7 +16,7 @@ sort_rows-requires-clause-rising c =
     subst IsNonDecreasing (sym (c.deref.ensures.value ∙ items)) up
 
 -- the places of the rows
-starts_of : (c : goal.In_ok-sort_rows) → (with_items c.in_ok-starts.starts c.fill.new.ends).items ≡ c.fill.new.ends
+starts_of : (c : goal.In_ok-ends) → (with_items c.in_ok-starts.starts c.fill.new.ends).items ≡ c.fill.new.ends
 starts_of c =
     let long = c.in_ok-starts.ensures.len in
     let size : length c.deref_mut.result.now ≡ length c.in_ok-starts.starts.items = ap length c.deref_mut.ensures.value in
@@ -23,7 +24,7 @@ starts_of c =
     with_items_is c.in_ok-starts.starts c.fill.new.ends kept
 
 -- the edges as they are filled in
-old_of : (c : goal.In_ok-sort_rows) → (with_items c.in_ok-out.out c.fill.new.out).items ≡ c.fill.new.out
+old_of : (c : goal.In_ok-ends) → (with_items c.in_ok-out.out c.fill.new.out).items ≡ c.fill.new.out
 old_of c =
     let long = c.in_ok-out.ensures.len in
     let size : length c.deref_mut-2.result.now ≡ length c.in_ok-out.out.items = ap length c.deref_mut-2.ensures.value in
@@ -31,7 +32,7 @@ old_of c =
     with_items_is c.in_ok-out.out c.fill.new.out kept
 
 -- and as they are sorted
-out_of : (c : goal.In_ok-sort_rows) → (with_items (with_items c.in_ok-out.out c.fill.new.out) c.sort_rows.new.out).items ≡ c.sort_rows.new.out
+out_of : (c : goal.In_ok-ends) → (with_items (with_items c.in_ok-out.out c.fill.new.out) c.sort_rows.new.out).items ≡ c.sort_rows.new.out
 out_of c =
     let long = c.in_ok-out.ensures.len in
     let value : length c.deref_mut-3.result.now ≡ length c.fill.new.out = ap length (c.deref_mut-3.ensures.value ∙ old_of c) in
@@ -40,7 +41,7 @@ out_of c =
     with_items_is (with_items c.in_ok-out.out c.fill.new.out) c.sort_rows.new.out kept
 
 -- the rows that are stored
-rows_of : (c : goal.In_ok-sort_rows) → AreRows c.args.vertices c.args.edges.now
+rows_of : (c : goal.In_ok-ends) → AreRows c.args.vertices c.args.edges.now
     (with_items c.in_ok-starts.starts c.fill.new.ends).items
     (with_items (with_items c.in_ok-out.out c.fill.new.out) c.sort_rows.new.out).items
 rows_of c =
@@ -60,6 +61,7 @@ invariant_of-result c =
     let size : length c.deref_mut-2.result.now ≡ length c.in_ok-out.out.items = ap length c.deref_mut-2.ensures.value in
     let kept : length c.sort_rows.new.out ≡ length c.args.edges.now = omega arith in
     stored _ c.args.edges.now (ap length (out_of c) ∙ kept) c.requires.few (rows_of c)
+    (c.in_ok-ends.ensures ∙ ap (map (λ (e : OutEdge). e.dst)) c.deref-2.ensures.value)
 
 pub returns : goal.returns
 returns c = record {
