@@ -85,16 +85,13 @@ pub(crate) fn take_edge<L: Ledger>(
         None => None,
         Some(table) => match choose_edge(&ground.rows, table, plan, factors, s, reader, steps) {
             None => None,
-            Some(edge) => {
-                let out = ground.rows.row(s.at)[edge];
-                Some(State {
-                    at: out.dst,
-                    previous: Some(s.at),
-                    phase: s.phase + 1,
-                    steps: s.steps + 1,
-                    place: reader.place(),
-                })
-            }
+            Some(edge) => Some(State {
+                at: ground.rows.end(s.at, edge),
+                previous: Some(s.at),
+                phase: s.phase + 1,
+                steps: s.steps + 1,
+                place: reader.place(),
+            }),
         },
     }
 }

@@ -1,26 +1,18 @@
-use Rattle.std.proofs.Common.{◌≡◌, ap, ◌∙◌, arith}
+use Rattle.std.proofs.Common.{◌≡◌, length, ap, sym, ◌∙◌, arith}
 use Rattle.walk_model.specs.Words.{word}
 use Rattle.walk_model.specs.Course.{course}
 use Rattle.walk_model.specs.Graph.{row, weights_of}
-use Rattle.walk_top.proofs.GroundLemmas.{table-some, table-none, taken-long}
+use Rattle.walk_model.proofs.BoardLemmas.{length-weights_of}
+use Rattle.walk_top.proofs.GroundLemmas.{table-some, table-none}
 use Rattle.walk_top.proofs.StepLemmas.{chosen-some, chosen-nothing, chosen-none}
 use Rattle.walk_top.proofs.stepping.take_edge.Goals as goal
 
-pub offset_bounds-row-edge : goal.offset_bounds-row-edge
-offset_bounds-row-edge g c =
-    let of = c.index.ensures ∙ c.args.ground.now.of_rows.each c.args.s.at c.index.result.now c.requires.stands.at in
-    let same : weights_of c.args.ground.now.weighted (row c.args.ground.now.rows.edges c.args.s.at) ≡ c.in-Some.table = table-some _ _ _ of c.in-Some.is in
-    let few = c.row.ensures.few in
-    let within = c.in-Some-choose_edge.ensures.within in
-    let long = taken-long _ _ c.in-Some.table c.row.result.now same c.row.ensures.row in
-    omega arith
-
-pub bounds-row-edge : goal.bounds-row-edge
-bounds-row-edge g c =
+pub end-requires-clause-edge : goal.end-requires-clause-edge
+end-requires-clause-edge g c =
     let of = c.index.ensures ∙ c.args.ground.now.of_rows.each c.args.s.at c.index.result.now c.requires.stands.at in
     let same : weights_of c.args.ground.now.weighted (row c.args.ground.now.rows.edges c.args.s.at) ≡ c.in-Some.table = table-some _ _ _ of c.in-Some.is in
     let within = c.in-Some-choose_edge.ensures.within in
-    let long = taken-long _ _ c.in-Some.table c.row.result.now same c.row.ensures.row in
+    let long = ap length (sym same) ∙ length-weights_of c.args.ground.now.weighted (row c.args.ground.now.rows.edges c.args.s.at) in
     omega arith
 
 pub returns-in-None-clause-value : goal.returns-in-None-clause-value
@@ -42,6 +34,6 @@ returns-in-Some-choose_edge-clause-value g c = λ start.
     let of = c.index.ensures ∙ c.args.ground.now.of_rows.each c.args.s.at c.index.result.now c.requires.stands.at in
     let same : weights_of c.args.ground.now.weighted (row c.args.ground.now.rows.edges c.args.s.at) ≡ c.in-Some.table = table-some _ _ _ of c.in-Some.is in
     let here : weights_of c.args.plan.now.weighted (row c.args.ground.now.rows.edges c.args.s.at) ≡ c.in-Some.table = rw c.requires.weighted at same in
-    rw (c.row.ensures.row, c.place.ensures)
-    (chosen-some (course c.args.ground.now.rows.edges c.args.plan.now (word c.args.reader.now.seed c.args.reader.now.walker) start) c.args.s _ c.args.reader.now.place c.in-Some-choose_edge.edge _ c.in-Some.table _
+    rw (c.end.ensures.end, c.place.ensures)
+    (chosen-some (course c.args.ground.now.rows.edges c.args.plan.now (word c.args.reader.now.seed c.args.reader.now.walker) start) c.args.s _ c.args.reader.now.place c.in-Some-choose_edge.edge _ c.in-Some.table
     here c.in-Some-choose_edge.ensures.within c.in-Some-choose_edge.ensures.edge)
