@@ -146,18 +146,20 @@ impl Rows {
     }
 
     /// Whether there is an edge from `t` to `x`.
+    #[inline]
     pub fn has(&self, t: u32, x: u32) -> bool
         requires from { t < self.now.vertices }
         requires to { x < self.now.vertices }
         ensures { result ≡ has_edge self.now.edges t x }
     {
-        let row = self.row(t);
-        let place = ends_below(row, x);
-        place < row.len() && row[place].dst == x
+        let ends = self.ends_from(t);
+        let place = ends_below(ends, x);
+        place < ends.len() && ends[place] == x
     }
 
     /// The half-open range of the places in the row of `v` whose edges end at `t`. Where there is
     /// none, both are the number of edges that end below `t`.
+    #[inline]
     pub fn run(&self, v: u32, t: u32) -> (usize, usize)
         requires from { v < self.now.vertices }
         requires to { t < self.now.vertices }
@@ -165,9 +167,9 @@ impl Rows {
         ensures to { result.1 ≡ result.0 + at (Some t) (ends_of (row self.now.edges v)) }
         ensures within { result.1 ≤ length (row self.now.edges v) }
     {
-        let row = self.row(v);
-        let from = ends_below(row, t);
-        let count = ends_at(&row[from..], t);
+        let ends = self.ends_from(v);
+        let from = ends_below(ends, t);
+        let count = ends_at(&ends[from..], t);
         (from, from + count)
     }
 }

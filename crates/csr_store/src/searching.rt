@@ -1,34 +1,34 @@
-//! The edges of a row that end at one vertex.
+//! Searches in the ends of a row, which rise.
 
 ghost use Rattle.std.specs.Prelude.{◌≡◌, ◌≤◌, ◌==◌, nat_lt, count_by, All};
-ghost use Rattle.std.specs.List.Sorted.{IsNonDecreasingBy};
-
-use crate::out_edge::OutEdge;
+ghost use Rattle.std.specs.List.Sorted.{IsNonDecreasing};
 
 /// Rows up to this length are looked through from end to end.
 const SHORT: usize = 16;
 
-/// How many edges of a row end below a vertex.
-pub(crate) fn ends_below(row: &[OutEdge], t: u32) -> usize
-    requires { IsNonDecreasingBy (λ e. e.dst) row.now }
-    ensures { result ≡ count_by (λ e. nat_lt e.dst t) row.now }
+/// How many ends lie below a vertex.
+#[inline]
+pub(crate) fn ends_below(ends: &[u32], t: u32) -> usize
+    requires { IsNonDecreasing ends.now }
+    ensures { result ≡ count_by (λ e. nat_lt e t) ends.now }
 {
-    if row.len() <= SHORT {
-        row.iter().filter(|e| e.dst < t).count()
+    if ends.len() <= SHORT {
+        ends.iter().filter(|e| **e < t).count()
     } else {
-        row.partition_point(|e| e.dst < t)
+        ends.partition_point(|e| *e < t)
     }
 }
 
-/// How many edges of a row end at a vertex, where none ends below it.
-pub(crate) fn ends_at(row: &[OutEdge], t: u32) -> usize
-    requires order { IsNonDecreasingBy (λ e. e.dst) row.now }
-    requires least { All (λ e. t ≤ e.dst) row.now }
-    ensures { result ≡ count_by (λ e. e.dst == t) row.now }
+/// How many ends are a vertex, where none lies below it.
+#[inline]
+pub(crate) fn ends_at(ends: &[u32], t: u32) -> usize
+    requires order { IsNonDecreasing ends.now }
+    requires least { All (λ e. t ≤ e) ends.now }
+    ensures { result ≡ count_by (λ e. e == t) ends.now }
 {
-    match row {
-        [first, ..] if first.dst != t => 0,
-        [_, second, ..] if second.dst != t => 1,
-        _ => row.partition_point(|e| e.dst <= t),
+    match ends {
+        [first, ..] if *first != t => 0,
+        [_, second, ..] if *second != t => 1,
+        _ => ends.partition_point(|e| *e <= t),
     }
 }

@@ -45,6 +45,7 @@ fn rows_of_the_cycle(rt: HostRuntime) -> Result<(), Fail> {
     assert_eq!(rt; row[0].weight, 1);
     assert_eq!(rt; row[1].weight, 2);
     assert_eq!(rt; row[1].dst, 1);
+    assert_eq!(rt; (rows.end(0, 0), rows.end(0, 1)), (1, 1));
     let runs = [
         (0u32, 1u32, 0usize, 2usize),
         (0, 2, 2, 2),
