@@ -18,8 +18,8 @@ use walk_model::{Edge, Memory};
 
 /// The edges of a graph in rows, seen as its edges, row by row, and the number of its vertices.
 ///
-/// An edge takes 20 bytes: its destination stands a second time in a list of its own, since a step
-/// along an edge reads nothing else of it.
+/// An edge takes 20 bytes: 16 in its row, and 4 for its destination in a list of destinations alone,
+/// which steps and searches read.
 #[derive(Debug, Drop)]
 pub struct Rows {
     vertices: u32,

@@ -1,4 +1,4 @@
-use Rattle.std.proofs.Common.{◌≡◌, length, ap, ◌∙◌, arith}
+use Rattle.std.proofs.Common.{length, ap, ◌∙◌, arith}
 use Rattle.walk_model.specs.Graph.{row}
 use Rattle.csr_store.proofs.EndLemmas.{length-ends_of}
 use Rattle.csr_store.proofs.rows.Rows.end.Goals as goal
