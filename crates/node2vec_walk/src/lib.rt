@@ -6,4 +6,4 @@ mod nearness;
 #[cfg(test)]
 mod tests;
 
-pub use nearness::{NodeClasses, class_of, node_factors, zone};
+pub use nearness::{NodeClasses, class_of, known_class, node_factors, zone};

@@ -44,12 +44,16 @@ impl<'a> Classes for NodeClasses<'a> {
 
     #[inline]
     fn known(&self, edge: usize) -> Option<usize> {
-        if self.row[edge].dst == self.back {
-            Some(0)
-        } else {
-            None
-        }
+        known_class(self.row[edge].dst, self.back)
     }
+}
+
+/// The class of an edge to `x` after a step from `back`, where it is known without asking.
+#[inline]
+pub fn known_class(x: u32, back: u32) -> Option<usize>
+    ensures { result ≡ known_to x back }
+{
+    (x == back).then_some(0)
 }
 
 /// The class of an edge to `x` after a step from `back`, where it is known whether there is an edge from

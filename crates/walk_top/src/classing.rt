@@ -1,14 +1,15 @@
 //! The classes of a row's edges, as a step asks for them.
 
-ghost use Rattle.std.specs.Prelude.{◌≡◌, ◌<◌, ℕ, List, Option, Some, None, All, length, map, replicate, slice_get};
-ghost use Rattle.csr_store.specs.Shelves.{IsOutEdge};
+ghost use Rattle.std.specs.Prelude.{◌≡◌, ◌<◌, ℕ, List, Option, Some, None, length, map, replicate, slice_get};
+ghost use Rattle.walk_model.specs.Graph.{row};
+ghost use Rattle.csr_store.specs.OutEdges.{out_edge};
 ghost use Rattle.metapath_walk.specs.TypeClasses.{type_classes};
 ghost use Rattle.node2vec_walk.specs.Nearness.{known_class, classes_after};
 
 use csr_store::Rows;
 use factor_table::{Classes, OneClass};
 use metapath_walk::SchemeClasses;
-use node2vec_walk::{NodeClasses, class_of};
+use node2vec_walk::{class_of, known_class};
 
 /// A row whose edges' classes can all be asked.
 pub(crate) trait RowClasses: Classes {
@@ -64,35 +65,36 @@ impl<'a> RowClasses for SchemeClasses<'a> {
     }
 }
 
-/// A row after a step from another vertex: the rows tell whether an edge is near that vertex.
+/// The row of a vertex after a step from another one: the rows tell where an edge ends, and whether it is
+/// near that other vertex.
 #[derive(Clone, Copy)]
 pub(crate) struct NearClasses<'a> {
-    pub classes: NodeClasses<'a>,
     pub rows: &'a Rows,
+    pub at: u32,
+    pub back: u32,
     pub run: (usize, usize),
-    ghost back_within: { classes.back < rows.now.vertices },
-    ghost row_within: { All (IsOutEdge rows.now.vertices) classes.row.now },
+    ghost at_within: { at < rows.now.vertices },
+    ghost back_within: { back < rows.now.vertices },
 }
 
 impl<'a> Classes for NearClasses<'a> {
-    ghost known_classes = { λ s. map (known_class s.classes.back) s.classes.row.now };
+    ghost known_classes = { λ s. map (known_class s.back) (map out_edge (row s.rows.now.edges s.at)) };
 
     #[inline]
     fn known(&self, edge: usize) -> Option<usize> {
-        self.classes.known(edge)
+        known_class(self.rows.end(self.at, edge), self.back)
     }
 }
 
 impl<'a> RowClasses for NearClasses<'a> {
-    ghost classes = { λ s. classes_after s.rows.now.edges s.classes.back s.classes.row.now };
+    ghost classes = { λ s. classes_after s.rows.now.edges s.back (map out_edge (row s.rows.now.edges s.at)) };
 
     ghost back = { λ s. Some s.run };
 
     #[inline]
     fn class_at(&self, edge: usize) -> usize {
-        let to = self.classes.row[edge].dst;
-        let near = self.rows.has(self.classes.back, to);
-        class_of(to, self.classes.back, near)
+        let to = self.rows.end(self.at, edge);
+        class_of(to, self.back, self.rows.has(self.back, to))
     }
 
     #[inline]

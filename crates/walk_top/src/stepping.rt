@@ -19,7 +19,6 @@ use alias_table::AliasTable;
 use csr_store::Rows;
 use factor_table::{OneClass, each_class};
 use metapath_walk::{SchemeClasses, wanted};
-use node2vec_walk::NodeClasses;
 use std::sync::ledger::Ledger;
 use walk_model::{Plan, State, Steps};
 use walker_stream::StreamReader;
@@ -51,8 +50,9 @@ fn choose_edge<L: Ledger>(
         (TypedFactors::Node2vec { .. }, None) => (&factors.one, OneClass { len: row.len() }),
         (TypedFactors::Scheme { kinds, factors }, _) => (factors, SchemeClasses { row, wanted: wanted(kinds, s.phase) }),
         (TypedFactors::Node2vec { factors }, Some(back)) => (factors, NearClasses {
-            classes: NodeClasses { row, back },
             rows,
+            at: s.at,
+            back,
             run: rows.run(s.at, back),
         }),
     } |factors, classes| choose(table, factors, &classes, plan.retries, reader, steps))

@@ -56,9 +56,10 @@ choose-requires-in-Node2vec-Some g c =
     subst (λ (ws : List ℕ). length ws * sum ws * greatest_factor c.args.plan.now.rule ≤ 2 ^ 62) c.requires.weights c.requires.fits in
     let by : IsNear c.args.plan.now.rule c.in-Node2vec-Some.factors = near-rule c.args.plan.now.rule c.args.factors.now.typed c.in-Node2vec-Some.factors c.in-Node2vec-Some.is-0 c.requires.rule.typed in
     let fits : length c.args.table.now * sum c.args.table.now * greatest_factor (Node2vec by.p by.q) ≤ 2 ^ 62 = rw by.rule at reach in
-    let choice : IsChoice 3 c.args.table.now c.in-Node2vec-Some.factors (map (near.known_class c.in-Node2vec-Some.back) c.row-row.result.now) (classes_after edges c.in-Node2vec-Some.back c.row-row.result.now) (Some c.run.result) =
+    let size : length (map out_edge out) ≡ length c.args.table.now = ap (λ (l : List OutEdge). length l) (sym stored) ∙ sym long in
+    let choice : IsChoice 3 c.args.table.now c.in-Node2vec-Some.factors (map (near.known_class c.in-Node2vec-Some.back) (map out_edge out)) (classes_after edges c.in-Node2vec-Some.back (map out_edge out)) (Some c.run.result) =
     rw by.factors
-    (choice-near c.args.table.now edges c.args.s.at c.in-Node2vec-Some.back by.p by.q c.row-row.result.now c.run.result.0 c.run.result.1 stored (sym long) fits by.above_p by.above_q
+    (choice-near c.args.table.now edges c.args.s.at c.in-Node2vec-Some.back by.p by.q (map out_edge out) c.run.result.0 c.run.result.1 refl size fits by.above_p by.above_q
     c.run.ensures.from c.run.ensures.to c.run.ensures.within) in
     (search rules, (choice, (search rules, search rules)))
 
@@ -126,8 +127,7 @@ returns-in-Node2vec-Some-clause-edge g c =
     let t : ℕ = c.in-Node2vec-Some.back in
     let by : IsNear c.args.plan.now.rule c.in-Node2vec-Some.factors = near-rule c.args.plan.now.rule c.args.factors.now.typed c.in-Node2vec-Some.factors c.in-Node2vec-Some.is-0 c.requires.rule.typed in
     c.choose-in-Node2vec-Some.ensures.edge
-    ∙ ap (λ (fs : List ℕ). darts retries (board_by (class_board ws fs (map (near.known_class t) c.row-row.result.now) (Some c.run.result)) (classes_after edges t c.row-row.result.now)) words place) by.factors
-    ∙ ap (λ (l : List OutEdge). darts retries (board_by (class_board ws (class_factors by.p by.q) (map (near.known_class t) l) (Some c.run.result)) (classes_after edges t l)) words place) stored
+    ∙ ap (λ (fs : List ℕ). darts retries (board_by (class_board ws fs (map (near.known_class t) (map out_edge out)) (Some c.run.result)) (classes_after edges t (map out_edge out))) words place) by.factors
     ∙ three-near retries edges c.args.plan.now c.args.s by.p by.q t c.run.result.0 c.run.result.1 out ws words place by.rule c.in-Node2vec-Some.is-1 c.requires.weights c.run.ensures.from c.run.ensures.to
     ∙ ap (λ n. darts n (board_of edges c.args.plan.now c.args.s out) words place) tries
 
