@@ -1,6 +1,6 @@
 -- Rows that a rule chooses from: the board of the classes is the board of the rule.
-use Rattle.std.proofs.Common.{◌≡◌, ℕ, ◌+◌, ◌-◌, ◌*◌, ◌^◌, ◌<◌, ◌≤◌, ◌⊎◌, inl, inr, List, [], ◌∷◌, length, map, replicate, sum, get_or, Some, None, refl, ap, sym, subst, ◌∙◌, arith, Bor}
-use Rattle.std.specs.Prelude.{Option, slice_index, slice_index_or, IfSome, All}
+use Rattle.std.proofs.Common.{◌≡◌, ℕ, ◌+◌, ◌-◌, ◌*◌, ◌^◌, ◌<◌, ◌≤◌, ◌⊎◌, inl, inr, List, [], ◌∷◌, length, map, replicate, sum, Some, None, refl, ap, sym, subst, ◌∙◌, arith, Bor}
+use Rattle.std.specs.Prelude.{Option}
 use Rattle.std.proofs.Math.Nat.{one-le-mul, mul-le-mul_left}
 use Rattle.std.proofs.lemmas.List.{length-map, length-replicate, get_or-replicate}
 use Rattle.walk_model.specs.declared.graph.Edge.{Edge}
@@ -12,10 +12,8 @@ use Rattle.walk_model.specs.Settings.{Settings}
 use Rattle.walk_model.specs.Graph.{row, has_edge, weights_of, ends_of}
 use Rattle.walk_model.specs.Factor.{greatest_factor, common_factor, wanted_kind}
 use Rattle.walk_model.specs.Dart.{darts, board_of, ends_below, ends_at}
-use Rattle.walk_model.specs.Fits.{reach_of}
 use Rattle.csr_store.specs.declared.out_edge.OutEdge.{OutEdge}
 use Rattle.csr_store.specs.OutEdges.{out_edge}
-use Rattle.factor_table.specs.Factors.{greatest_of}
 use Rattle.factor_table.specs.KnownClasses.{all_zero}
 use Rattle.factor_table.proofs.OneClassLaws.{known-zero, darts-plain, darts-first}
 use Rattle.dart_envelope.specs.ClassBoards.{class_board, board_by, MayHave}

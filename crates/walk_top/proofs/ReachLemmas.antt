@@ -12,7 +12,7 @@ use Rattle.walk_model.specs.Settings.{Settings}
 use Rattle.walk_model.specs.Graph.{row, weights_of, vertices_of}
 use Rattle.walk_model.specs.Factor.{greatest_factor}
 use Rattle.walk_model.specs.Fits.{reach_of}
-use Rattle.walk_model.proofs.RenameLemmas.{renamed, row-renamed, weights_of-renamed}
+use Rattle.walk_model.proofs.RenameLemmas.{row-renamed, weights_of-renamed}
 use Rattle.vertex_names.specs.Ranks.{ranked, AreNamed}
 use Rattle.vertex_names.proofs.NameLaws.{ranked-ends}
 use Rattle.csr_store.specs.RowGraph.{RowGraph}

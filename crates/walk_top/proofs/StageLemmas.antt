@@ -1,12 +1,12 @@
 -- Faults of stages, as those of the stages that are put together from them.
-use Rattle.std.proofs.Common.{◌≡◌, ◌≤◌, ◌⊎◌, ℕ, List, refl, ap, sym, subst, ◌∙◌, inl, inr, arith}
+use Rattle.std.proofs.Common.{◌≡◌, ◌≤◌, ◌⊎◌, ℕ, List, refl, ap, subst, ◌∙◌, inl, inr, arith}
 use Rattle.std.specs.Prelude.{Contains}
 use Rattle.walk_io.specs.Causes.{Rose}
 use Rattle.walk_io.specs.Files.{Told}
 use Rattle.walk_model.specs.declared.faults.WalkFault.{WalkFault}
 use Rattle.walk_top.specs.Verdicts.{Finding, Found, Refused, Lacks, Untold, and_then, MayBe, MayRefuse}
 use Rattle.walk_top.specs.Outcomes.{Cause, OfWords, OfFiles, OfReading, OfWriting, OfMemory, cause_of, without}
-use Rattle.walk_top.specs.Stages.{Stage, StopsAt, ComesIn, IsFaultIn, Refuses, IsRefusal}
+use Rattle.walk_top.specs.Stages.{Stage, ComesIn, IsFaultIn, Refuses, IsRefusal}
 use Rattle.walk_top.proofs.FindingLemmas.{and_then-refused, and_then-refused_first}
 
 comes-first : {A B : Type 0} (find : (List ℕ → Told) → Finding A) (later : (List ℕ → Told) → A → Finding B) (s : Stage) (f : WalkFault) (c : Cause)

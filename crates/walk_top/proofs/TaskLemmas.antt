@@ -1,27 +1,24 @@
 -- What the stages of a call say of its verdict.
-use Rattle.std.proofs.Common.{◌≡◌, ◌≤◌, ◌⊎◌, ℕ, zero, suc, Bool, true, false, List, [], ◌∷◌, Option, Some, None, refl, ap, sym, subst, ◌∙◌, inl, inr, arith}
+use Rattle.std.proofs.Common.{◌≡◌, ◌⊎◌, ℕ, zero, suc, true, false, List, [], ◌∷◌, Option, Some, None, refl, ap, sym, subst, ◌∙◌, inl, inr, arith}
 use Rattle.std.specs.Prelude.{if◌then◌else◌, Contains, option_map, IfSome, nat_lt, ◌&&◌, ◌==◌, length}
 use Rattle.std.specs.Option.{option_or}
 use Rattle.std.specs.Str.{bytes_eq}
 use Rattle.std.proofs.lemmas.Slice.Eq.{bytes_eq-Decides}
-use Rattle.walk_io.specs.Causes.{Rose}
 use Rattle.walk_io.specs.Files.{Told, Unknown}
 use Rattle.walk_model.specs.declared.graph.Edge.{Edge}
 use Rattle.walk_model.specs.declared.programme.StartRule.{StartRule}
 use Rattle.walk_model.specs.declared.programme.StartRule.TheVariants.{Each, Spread, From}
-use Rattle.walk_model.specs.declared.faults.Limit.{Limit}
 use Rattle.walk_model.specs.declared.faults.WalkFault.{WalkFault}
 use Rattle.walk_model.specs.declared.faults.WalkFault.TheVariants as fault
 use Rattle.walk_model.specs.Settings.{Settings}
 use Rattle.walk_model.specs.Graph.{vertices_of}
 use Rattle.walk_model.specs.Walk.{walker_count}
-use Rattle.edge_reader.specs.GraphFile.{graph_of}
 use Rattle.walk_programme.specs.Programme.{plan_of}
 use Rattle.vertex_names.specs.Ranks.{is_name}
-use Rattle.walk_top.specs.Jobs.{Job, Quick, Walk, job, quick_plan, files_of}
+use Rattle.walk_top.specs.Jobs.{Job, Quick, Walk, job, files_of}
 use Rattle.walk_top.specs.Limits.{passed_limit, start_fault, count_fault, overflowing, task_fault}
-use Rattle.walk_top.specs.Verdicts.{Finding, Found, Untold, Task, and_then, unless, job_found, contents_found, graph_found, short_enough, plan_found, named_plan, job_plan, graph_name, named_graph, most_limits, task_of, verdict, MayBe, MayRefuse}
-use Rattle.walk_top.specs.Outcomes.{Call, Cause, OfWords, OfFiles, OfReading, OfWriting, OfMemory, cause_of, CameAbout, IsCaused, FailsToRead, without, IsFileOf}
+use Rattle.walk_top.specs.Verdicts.{Finding, Untold, Task, and_then, unless, job_found, contents_found, short_enough, plan_found, job_plan, graph_name, named_graph, task_of, verdict, MayBe}
+use Rattle.walk_top.specs.Outcomes.{Call, Cause, OfWords, OfFiles, OfReading, OfWriting, OfMemory, cause_of, CameAbout, IsCaused, without, IsFileOf}
 use Rattle.walk_top.specs.Stages.{Stage, ComesIn, IsFaultIn}
 use Rattle.walk_top.proofs.FindingLemmas.{and_then-maybe, and_then-refused, unless-none, unless-some, job-found}
 use Rattle.walk_top.proofs.StageLemmas.{in-first, in-later, HidesOrKeeps}

@@ -1,5 +1,5 @@
 -- Rows that a step can choose from.
-use Rattle.std.specs.Prelude.{◌≡◌, ℕ, ◌*◌, ◌^◌, ◌≤◌, List, length, sum, map, slice_index, Option, IfSome}
+use Rattle.std.specs.Prelude.{◌≡◌, ℕ, ◌*◌, ◌^◌, ◌≤◌, List, length, sum, Option, IfSome}
 use Rattle.factor_table.specs.Factors.{greatest_of}
 use Rattle.dart_envelope.specs.ClassBoards.{class_board, Suits}
 use Rattle.dart_envelope.specs.Conditions.{HaveFactors, IsReturnRun}

@@ -1,5 +1,5 @@
 -- The factors that a rule chooses by.
-use Rattle.std.specs.Prelude.{◌≡◌, ℕ, ◌≤◌, [], ◌∷◌}
+use Rattle.std.specs.Prelude.{◌≡◌, ◌≤◌, [], ◌∷◌}
 use Rattle.walk_model.specs.declared.programme.Rule.{Rule}
 use Rattle.walk_model.specs.declared.programme.Rule.TheVariants as rule
 use Rattle.node2vec_walk.specs.Nearness.{class_factors}

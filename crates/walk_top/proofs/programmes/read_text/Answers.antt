@@ -1,4 +1,4 @@
-use Rattle.std.proofs.Common.{◌≡◌, ◌≤◌, ◌<◌, ◌+◌, ◌++◌, List, ℕ, length, take, refl, arith, ◌∙◌, ap, sym}
+use Rattle.std.proofs.Common.{◌≡◌, ◌+◌, ◌++◌, length, take, arith, ◌∙◌, ap}
 use Rattle.std.proofs.lemmas.List.{length-append, length-take-le}
 use Rattle.walk_top.proofs.ReadLemmas.{read-front, stands-moved}
 use Rattle.walk_top.proofs.programmes.read_text.Goals as goal

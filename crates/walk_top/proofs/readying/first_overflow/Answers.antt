@@ -1,4 +1,4 @@
-use Rattle.std.proofs.Common.{◌≡◌, ◌^◌, ℕ, Bool, true, false, nat_lt, find, refl, ap, sym, ◌∙◌, add-one, arith}
+use Rattle.std.proofs.Common.{◌≡◌, ◌^◌, ℕ, Bool, true, false, nat_lt, find, ap, sym, ◌∙◌, add-one, arith}
 use Rattle.walk_top.specs.Outputs.{below}
 use Rattle.walk_top.specs.Reaches.{row_reach}
 use Rattle.walk_top.proofs.ReachLemmas.{found-below, none-below, below-zero, stored-reach}

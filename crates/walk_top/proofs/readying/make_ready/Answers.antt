@@ -1,9 +1,8 @@
-use Rattle.std.proofs.Common.{◌≡◌, ◌<◌, ◌^◌, ℕ, nat_lt, length, find, ap, sym, subst, ◌∙◌, inl}
+use Rattle.std.proofs.Common.{◌<◌, ◌^◌, nat_lt, ap, sym, subst, ◌∙◌, inl}
 use Rattle.std.specs.Prelude.{Some, None}
 use Rattle.walk_model.specs.Graph.{vertices_of}
 use Rattle.walk_model.specs.Factor.{greatest_factor}
 use Rattle.walk_model.specs.declared.faults.WalkFault.TheVariants as fault
-use Rattle.walk_top.specs.Outputs.{below}
 use Rattle.walk_top.specs.Reaches.{row_reach}
 use Rattle.walk_top.proofs.ReadyLemmas.{found-low, task-by_rank, ready-for}
 use Rattle.walk_top.proofs.readying.make_ready.Goals as goal

@@ -1,4 +1,4 @@
-use Rattle.std.proofs.Common.{◌≡◌, Bool, true, false, if◌then◌else◌, Some, None, sym, ap, ◌∙◌}
+use Rattle.std.proofs.Common.{true, false, sym, ◌∙◌}
 use Rattle.dart_envelope.specs.Verdicts.{settled}
 use Rattle.walk_top.proofs.DartLemmas.{settled-need}
 use Rattle.walk_top.proofs.throwing.taken.Goals as goal

@@ -1,4 +1,4 @@
-use Rattle.std.proofs.Common.{◌≡◌, ◌≤◌, ◌<◌, ◌-◌, ◌*◌, ◌++◌}
+use Rattle.std.proofs.Common.{◌≡◌, ◌≤◌, ◌-◌, ◌*◌, ◌++◌}
 use Rattle.walk_model.specs.Words.{word}
 use Rattle.walk_model.specs.Course.{course}
 use Rattle.walk_model.specs.Walk.{entries_after, walk}
