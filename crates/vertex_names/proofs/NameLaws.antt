@@ -1,5 +1,5 @@
 -- Ranks keep the order of names, and the name at the place of a rank is the name.
-use Rattle.std.proofs.Common.{◌≡◌, ℕ, zero, suc, ◌+◌, ◌^◌, ◌<◌, ◌≤◌, ◌||◌, Bool, true, false, cond, List, [], ◌∷◌, ◌++◌, length, map, take, drop, get_or, refl, arith, ap, ◌∙◌}
+use Rattle.std.proofs.Common.{◌≡◌, ℕ, suc, ◌+◌, ◌^◌, ◌<◌, ◌≤◌, ◌||◌, Bool, true, false, cond, List, [], ◌∷◌, ◌++◌, length, map, take, drop, get_or, refl, arith, ap, sym, subst, ◌∙◌}
 use Rattle.std.specs.Prelude.{nat_lt, ◌==◌, slice_index, All, IsTrue}
 use Rattle.std.specs.List.Sorted.{IsStrictlyIncreasing}
 use Rattle.std.proofs.lemmas.Bool.{false≢true, eq-eqb, ne_eqb, eqb-true, eqb-false}
@@ -12,6 +12,8 @@ use Rattle.walk_model.specs.declared.graph.Edge.{Edge}
 use Rattle.walk_model.proofs.RenameLemmas.{Keeps, EndsIn}
 use Rattle.vertex_names.proofs.IndexLemmas.{rank-at}
 use Rattle.walk_model.specs.Graph.{vertices_of}
+use Rattle.vertex_names.specs.declared.names.Names.TheInside.{Inside}
+use Rattle.vertex_names.specs.Known.{AreKept}
 use Rattle.vertex_names.specs.Ranks.{is_name, rank_in, ranked, AreNamed}
 use Rattle.vertex_names.proofs.RisingLemmas.{is_name-vertices}
 use Rattle.vertex_names.proofs.ListLemmas.{count_by-cons}
@@ -150,3 +152,26 @@ name-at_rank names x up is =
     let read : slice_index names found.0 ≡ x =
     get_or_default names found.0 0 found.1 found.2 ∙ found.3 ∙ eqb-true found.1 x found.4 in
     ap (slice_index names) (rank-at names found.0 x up found.2 read) ∙ read
+
+-- names that follow each other from 0 are their own ranks
+pub rank-itself : (names : List ℕ) → IsStrictlyIncreasing names → ((k : ℕ) → k < length names → slice_index names k ≡ k)
+    → (id : ℕ) → IsTrue (is_name names id) → rank_in names id ≡ id
+rank-itself names up close id is =
+    sym (close (rank_in names id) (rank-within names id is)) ∙ name-at_rank names id up is
+
+-- edges between names that are their own ranks stay what they are
+pub ranked-itself : (names : List ℕ) → ((id : ℕ) → IsTrue (is_name names id) → rank_in names id ≡ id)
+    → (edges : List Edge) → AreNamed names edges → map (ranked names) edges ≡ edges
+ranked-itself names same [] h = refl
+ranked-itself names same (e ∷ es) h =
+    let head = All-head (λ (d : Edge). IsTrue (is_name names d.src) × IsTrue (is_name names d.dst)) e es h in
+    let rest = ranked-itself names same es (All-tail (λ (d : Edge). IsTrue (is_name names d.src) × IsTrue (is_name names d.dst)) e es h) in
+    rw (same e.src head.0, same e.dst head.1) (ap (λ l. e ∷ l) rest)
+
+-- kept names that follow each other from 0 are their own ranks
+pub ranks_own : (a : Inside) (names : List ℕ) → AreKept a → a.ids.items ≡ names → a.dense ≡ true → a.first ≡ 0
+    → (id : ℕ) → IsTrue (is_name names id) → rank_in names id ≡ id
+ranks_own a names kept is dense least id named =
+    rank-itself names (subst IsStrictlyIncreasing is kept.rising)
+    (λ k h. (let at = kept.close dense k (subst (λ l. k < length l) (sym is) h) in
+    let read : slice_index a.ids.items k ≡ slice_index names k = ap (λ l. slice_index l k) is in omega arith)) id named

@@ -96,6 +96,14 @@ impl Names {
         }
     }
 
+    /// Whether each id is its own rank.
+    #[tactic(auto, using(crate::proofs::NameLaws::ranks_own))]
+    fn are_ranks(&self) -> bool
+        ensures { IsTrue result → (id : ℕ) → IsTrue (is_name self.now id) → rank_in self.now id ≡ id }
+    {
+        self.dense && self.first == 0
+    }
+
     /// Puts ranks in place of ids, and keeps all else.
     pub fn rename(&self, edges: &mut [Edge])
         requires { AreNamed self.now edges.old }
@@ -103,6 +111,9 @@ impl Names {
         ensures ends { All (λ e. (e.src < length self.now) × (e.dst < length self.now)) edges.new }
         ensures weights { All (λ e. (1 ≤ e.weight) × (e.weight < 2 ^ 62)) edges.old → All (λ e. (1 ≤ e.weight) × (e.weight < 2 ^ 62)) edges.new }
     {
+        if self.are_ranks() {
+            return;
+        }
         for e in edges.iter_mut() {
             *e = Edge {
                 src: self.known(e.src),

@@ -4,7 +4,7 @@ use Rattle.std.proofs.lemmas.List.Edits.{map_over_more}
 use Rattle.std.specs.Prelude.{All}
 use Rattle.walk_model.specs.declared.graph.Edge.{Edge}
 use Rattle.vertex_names.specs.Ranks.{ranked}
-use Rattle.vertex_names.proofs.NameLaws.{ranked-ends, ranked-weights, all-ranked}
+use Rattle.vertex_names.proofs.NameLaws.{ranked-itself, ranked-ends, ranked-weights, all-ranked}
 use Rattle.vertex_names.proofs.names.Names.rename.Goals as goal
 
 pub loop-e-preserved : goal.loop-e-preserved
@@ -26,3 +26,13 @@ returns-clause-weights c = λ h.
     let all = all-ranked c.args.self.now c.args.edges.now c.loop-e.edges c.loop-e.e-index c.loop-e-test.false c.loop-e.invariant in
     subst (λ l. All (λ (e : Edge). (1 ≤ e.weight) × (e.weight < 2 ^ 62)) l) (sym all)
     (ranked-weights c.args.self.now c.args.edges.now h)
+
+pub returns-then-are_ranks-clause-edges : goal.returns-then-are_ranks-clause-edges
+returns-then-are_ranks-clause-edges c =
+    sym (ranked-itself c.args.self.now (c.are_ranks.ensures c.if-are_ranks.true) c.args.edges.now c.requires)
+
+pub returns-then-are_ranks-clause-ends : goal.returns-then-are_ranks-clause-ends
+returns-then-are_ranks-clause-ends c =
+    subst (λ l. All (λ (e : Edge). (e.src < length c.args.self.now) × (e.dst < length c.args.self.now)) l)
+    (ranked-itself c.args.self.now (c.are_ranks.ensures c.if-are_ranks.true) c.args.edges.now c.requires)
+    (ranked-ends c.args.self.now c.args.edges.now c.requires)
