@@ -1,5 +1,5 @@
 -- One byte more of a line.
-use Rattle.std.proofs.Common.{◌≡◌, ◌≢◌, ◌==◌, ◌&&◌, ℕ, ◌+◌, ◌-◌, ◌*◌, Bool, true, false, if◌then◌else◌, List, [], ◌∷◌, None, Ok, refl, ap, sym, ◌∙◌, arith}
+use Rattle.std.proofs.Common.{◌≡◌, ◌≢◌, ◌==◌, ◌&&◌, ℕ, ◌+◌, ◌-◌, ◌*◌, ◌<◌, ◌≤◌, Bool, true, false, if◌then◌else◌, List, [], ◌∷◌, None, Ok, refl, ap, sym, ◌∙◌, arith}
 use Rattle.std.specs.Char.{is_ascii_digit}
 use Rattle.std.specs.Str.{all_ascii_digits}
 use Rattle.walk_model.specs.Digits.{continued}
@@ -174,3 +174,58 @@ start-is line text plain gap none all =
     line_with-plain line text plain
     ∙ ap (λ p. from_place p line.fields line.digits (without_return text)) gap
     ∙ front-is line.fields line.digits (without_return text) none (all (fields (without_return text)))
+
+-- a line within a field of which these digits are known
+abbrev pub in_field : Gathered → Digits → Line
+in_field g n = record { place = Field; returned = false; digits = n; fields = g }
+
+-- a digit is no other byte
+pub digit-solid : (b : ℕ) → is_ascii_digit b ≡ true → is_blank b ≡ false
+digit-solid b digit = grind arith
+
+digit-no_sign : (b : ℕ) → is_ascii_digit b ≡ true → is_sign b ≡ false
+digit-no_sign b digit = grind arith
+
+digit-no_return : (b : ℕ) → is_ascii_digit b ≡ true → b ≢ 13
+digit-no_return b digit = grind arith
+
+pub digit-no_feed : (b : ℕ) → is_ascii_digit b ≡ true → b ≢ 10
+digit-no_feed b digit = grind arith
+
+pub digit-low : (b : ℕ) → is_ascii_digit b ≡ true → b ≤ 57
+digit-low b digit = grind arith
+
+blank-no_return : (b : ℕ) → is_blank b ≡ true → b ≢ 13
+blank-no_return b blank = grind arith
+
+pub blank-no_feed : (b : ℕ) → is_blank b ≡ true → b ≢ 10
+blank-no_feed b blank = grind arith
+
+-- a number with this value
+abbrev pub number_at : (v : ℕ) → v ≤ 4294967296 → Digits
+number_at v low = record { value = v; is_number = true; in_range = low }
+
+-- the first digit of a number
+pub number-first : (line : Line) (n : Digits) (b : ℕ) → line.place ≡ Gap → line.returned ≡ false → is_ascii_digit b ≡ true
+    → n.value ≡ b - 48 → n.is_number ≡ true → (rest : List ℕ) → line_with (in_field line.fields n) rest ≡ line_with line (b ∷ rest)
+number-first line n b gap plain digit value number rest =
+    let no_sign : (line.fields.count == 0 && is_sign b) ≡ false = rw (digit-no_sign b digit) (and-false (line.fields.count == 0)) in
+    let at : n.value ≡ capped (10 * 0 + (b - 48)) = grind arith in
+    plain-more line (in_field line.fields n) b rest (digit-no_return b digit) plain refl
+    (λ more. rw gap (gap-first line.fields (number_at 0 (omega arith)) n line.digits b more (digit-solid b digit) no_sign refl refl at (number ∙ sym digit)))
+
+-- a further digit of a small one
+pub number-more : (g : Gathered) (n r : Digits) (b : ℕ) → is_ascii_digit b ≡ true → n.value < 429496729 → n.is_number ≡ true
+    → r.value ≡ 10 * n.value + (b - 48) → r.is_number ≡ true → (rest : List ℕ) → line_with (in_field g r) rest ≡ line_with (in_field g n) (b ∷ rest)
+number-more g n r b digit small was value number rest =
+    let at : r.value ≡ capped (10 * n.value + (b - 48)) = grind arith in
+    plain-more (in_field g n) (in_field g r) b rest (digit-no_return b digit) refl refl
+    (λ more. field-more g n r b more (digit-solid b digit) at (number ∙ rw (was, digit) refl))
+
+-- a blank behind it
+pub number-blank : (g : Gathered) (n : Digits) (after : Line) (b : ℕ) → is_blank b ≡ true
+    → after.place ≡ Gap → after.returned ≡ false → after.fields ≡ with_field g n.is_number n.value
+    → (rest : List ℕ) → line_with after rest ≡ line_with (in_field g n) (b ∷ rest)
+number-blank g n after b blank gap plain added rest =
+    plain-more (in_field g n) after b rest (blank-no_return b blank) refl plain
+    (λ more. rw (gap, added) (field-blank g n after.digits b more blank))

@@ -1,5 +1,5 @@
 -- A text byte by byte and line by line.
-use Rattle.std.proofs.Common.{◌≡◌, ◌≢◌, ◌==◌, ℕ, ◌+◌, ◌≤◌, Bool, true, false, List, [], ◌∷◌, length, drop, get_or, add-one, drop-cons, length-drop, ◌<◌, Result, Ok, Err, OnOk, IfErr, refl, ap, sym, ◌∙◌, arith}
+use Rattle.std.proofs.Common.{◌≡◌, ◌≢◌, ◌==◌, ℕ, ◌+◌, ◌≤◌, Bool, true, false, List, [], ◌∷◌, ◌++◌, length, drop, get_or, add-one, drop-cons, length-drop, ◌<◌, Result, Ok, Err, OnOk, IfErr, refl, ap, sym, ◌∙◌, arith}
 use Rattle.std.proofs.lemmas.List.{append-nil}
 use Rattle.walk_model.specs.declared.graph.Edge.{Edge}
 use Rattle.walk_model.specs.declared.faults.LineFault.{LineFault}
@@ -89,14 +89,12 @@ first_ended-more : (u : Bool) (n r : ℕ) (line after : Line) (b : ℕ) (ls : Li
 first_ended-more u n r line after b [] same = refl
 first_ended-more u n r line after b (l ∷ ls) same = ap (λ e. after_line u n r e (λ left. edges_from u (n + 1) left ls)) (sym (same l))
 
-pub at_line-more : (p : Progress) (line after : Line) (whole : Bool) (b : ℕ) (text : List ℕ) → b ≢ 10 → ((rest : List ℕ) → line_with after rest ≡ line_with line (b ∷ rest))
-    → at_line p line whole (b ∷ text) ≡ at_line p after whole text
-at_line-more p line after true b text other same =
-    ap (in_front p.edges.items) (ap (lines_with p.undirected p.number p.room line) (lines_of-more b text other)
-    ∙ first-more p.undirected p.number p.room line after b (lines_of text) (lines_of-some text) same)
-at_line-more p line after false b text other same =
-    ap (in_front p.edges.items) (ap (lines_with p.undirected p.number p.room line) (ended_lines-more b text other)
-    ∙ first_ended-more p.undirected p.number p.room line after b (ended_lines text) same)
+pub lines_with-more : (u : Bool) (n r : ℕ) (line after : Line) (whole : Bool) (b : ℕ) (text : List ℕ) → b ≢ 10 → ((rest : List ℕ) → line_with after rest ≡ line_with line (b ∷ rest))
+    → lines_with u n r line (lines_in whole (b ∷ text)) ≡ lines_with u n r after (lines_in whole text)
+lines_with-more u n r line after true b text other same =
+    ap (lines_with u n r line) (lines_of-more b text other) ∙ first-more u n r line after b (lines_of text) (lines_of-some text) same
+lines_with-more u n r line after false b text other same =
+    ap (lines_with u n r line) (ended_lines-more b text other) ∙ first_ended-more u n r line after b (ended_lines text) same
 
 -- a line feed
 pub at_line-feed : (p : Progress) (line : Line) (whole : Bool) (b : ℕ) (text : List ℕ) → b ≡ 10
@@ -162,3 +160,11 @@ drop-end i xs over = let none : length (drop i xs) ≡ 0 = omega (arith, length-
     empty-is : (ys : List ℕ) → length ys ≡ 0 → ys ≡ []
     empty-is [] none = refl
     empty-is (y ∷ ys) none = absurd (omega arith)
+
+-- the byte at a place, which doesn't end the line
+pub lines_with-next : (u : Bool) (n r : ℕ) (line after : Line) (whole : Bool) (at : ℕ) (piece text : List ℕ) → at < length piece → get_or piece at 0 ≢ 10
+    → ((rest : List ℕ) → line_with after rest ≡ line_with line (get_or piece at 0 ∷ rest))
+    → lines_with u n r line (lines_in whole (drop at piece ++ text)) ≡ lines_with u n r after (lines_in whole (drop (at + 1) piece ++ text))
+lines_with-next u n r line after whole at piece text there other same =
+    ap (λ xs. lines_with u n r line (lines_in whole (xs ++ text))) (drop-next at piece there)
+    ∙ lines_with-more u n r line after whole (get_or piece at 0) (drop (at + 1) piece ++ text) other same

@@ -30,6 +30,19 @@ impl Digits {
         }
     }
 
+    /// A number with this value.
+    #[inline]
+    pub(crate) fn of(value: u64) -> Digits
+        requires { value ≤ 4294967296 }
+        ensures value { result.value ≡ value }
+        ensures is_number { result.is_number ≡ true }
+    {
+        Digits {
+            value,
+            is_number: true,
+        }
+    }
+
     /// One byte more.
     #[inline]
     pub(crate) fn and(self, b: u8) -> Digits

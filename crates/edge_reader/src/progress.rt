@@ -105,15 +105,17 @@ impl Progress {
             IsFault f (edges_with whole self.old (piece.now ++ text))) }
     {
         let mut line = self.line;
-        for b in piece {
-            if *b == b'\n' {
+        let mut at = 0;
+        'reading: while at < piece.len() {
+            if piece[at] == b'\n' {
                 match self.end_line(&line) {
                     Ok(()) => {}
                     Err(fault) => return Err(fault),
                 }
                 line = Line::start();
+                at += 1;
             } else {
-                line.take(*b);
+                at = line.take_from(piece, at);
             }
         }
         self.line = line;

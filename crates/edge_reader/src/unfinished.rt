@@ -1,13 +1,18 @@
-//! A line that hasn't ended, read byte by byte.
+//! A line that hasn't ended, read by bytes and by numbers.
 
-ghost use Rattle.std.specs.Prelude.{◌≡◌, ◌∷◌, [], List, ℕ, false};
-ghost use Rattle.edge_reader.specs.Lines.{is_blank, is_sign};
+ghost use Rattle.std.specs.Prelude.{◌≡◌, ◌≢◌, ◌<◌, ◌≤◌, ◌∷◌, ◌++◌, [], List, ℕ, Bool, true, false, length, drop, slice_index};
+ghost use Rattle.std.specs.Char.{is_ascii_digit};
+ghost use Rattle.edge_reader.specs.Lines.{is_blank, is_sign, lines_in};
 ghost use Rattle.edge_reader.specs.GraphFile.{line_edge};
 ghost use Rattle.edge_reader.specs.Unfinished.{from_place, line_with};
+ghost use Rattle.edge_reader.specs.Taken.{lines_with};
 
 use crate::gathered::Gathered;
 use crate::numbers::Digits;
 use walk_model::{Edge, Why};
+
+/// A number below this isn't too great with one digit more.
+const SMALL: u64 = 429496729;
 
 /// Where in a line a reader stands.
 #[derive(Clone, Copy)]
@@ -131,6 +136,57 @@ impl Line {
             return;
         }
         take_solid(self, b);
+    }
+
+    /// Takes the number that begins at a place of a text, as far as it is small, and a blank after it. Answers the
+    /// place after what is taken.
+    #[inline]
+    fn take_number(&mut self, piece: &[u8], at: usize) -> usize
+        requires gap { self.old.place ≡ Place.Gap }
+        requires plain { self.old.returned ≡ false }
+        requires within { at < length piece.now }
+        requires digit { is_ascii_digit (slice_index piece.now at) ≡ true }
+        ensures onward { at < result }
+        ensures within { result ≤ length piece.now }
+        ensures taken { (undirected : Bool) (number room : ℕ) (whole : Bool) (text : List ℕ) →
+            lines_with undirected number room self.old (lines_in whole (drop at piece.now ++ text))
+            ≡ lines_with undirected number room self.new (lines_in whole (drop result piece.now ++ text)) }
+    {
+        let mut value = u64::from(piece[at].saturating_sub(b'0'));
+        let mut next = at + 1;
+        'digits: while next < piece.len() && value < SMALL && piece[next].is_ascii_digit() {
+            value = 10 * value + u64::from(piece[next].saturating_sub(b'0'));
+            next += 1;
+        }
+        self.digits = Digits::of(value);
+        if next < piece.len() && is_blank_byte(piece[next]) {
+            self.fields.add(self.digits);
+            return next + 1;
+        }
+        self.place = Place::Field;
+        next
+    }
+
+    /// Takes the byte at a place of a text, and more where a number begins there. Answers the place after what is taken.
+    #[inline]
+    pub(crate) fn take_from(&mut self, piece: &[u8], at: usize) -> usize
+        requires within { at < length piece.now }
+        requires inside { slice_index piece.now at ≢ 10 }
+        ensures onward { at < result }
+        ensures within { result ≤ length piece.now }
+        ensures taken { (undirected : Bool) (number room : ℕ) (whole : Bool) (text : List ℕ) →
+            lines_with undirected number room self.old (lines_in whole (drop at piece.now ++ text))
+            ≡ lines_with undirected number room self.new (lines_in whole (drop result piece.now ++ text)) }
+    {
+        match self.place {
+            Place::Gap if !self.returned && piece[at].is_ascii_digit() => {
+                self.take_number(piece, at)
+            }
+            _ => {
+                self.take(piece[at]);
+                at + 1
+            }
+        }
     }
 
     /// What the line comes to if it ends here.
