@@ -1,6 +1,7 @@
 -- Rows that a rule chooses from: the board of the classes is the board of the rule.
 use Rattle.std.proofs.Common.{◌≡◌, ℕ, ◌+◌, ◌-◌, ◌*◌, ◌^◌, ◌<◌, ◌≤◌, ◌⊎◌, inl, inr, List, [], ◌∷◌, length, map, replicate, sum, Some, None, refl, ap, sym, subst, ◌∙◌, arith, Bor}
-use Rattle.std.specs.Prelude.{Option}
+use Rattle.std.specs.Prelude.{Option, drop, slice_index}
+use Rattle.std.proofs.lemmas.Bool.Decides.{nat_tests}
 use Rattle.std.proofs.Math.Nat.{one-le-mul, mul-le-mul_left}
 use Rattle.std.proofs.lemmas.List.{length-map, length-replicate, get_or-replicate}
 use Rattle.walk_model.specs.declared.graph.Edge.{Edge}
@@ -10,11 +11,13 @@ use Rattle.walk_model.specs.declared.programme.Rule.TheVariants.{Plain, Scheme, 
 use Rattle.walk_model.specs.declared.states.State.{State}
 use Rattle.walk_model.specs.Settings.{Settings}
 use Rattle.walk_model.specs.Graph.{row, has_edge, weights_of, ends_of}
-use Rattle.walk_model.specs.Factor.{greatest_factor, common_factor, wanted_kind}
+use Rattle.walk_model.specs.Factor.{greatest_factor, return_factor, common_factor, far_factor, wanted_kind}
 use Rattle.walk_model.specs.Dart.{darts, board_of, ends_below, ends_at}
 use Rattle.csr_store.specs.declared.out_edge.OutEdge.{OutEdge}
 use Rattle.csr_store.specs.OutEdges.{out_edge}
 use Rattle.factor_table.specs.KnownClasses.{all_zero}
+use Rattle.factor_table.specs.Factors.{greatest_of}
+use Rattle.factor_table.proofs.FlatBoardLaws.{flat_board, darts-flat}
 use Rattle.factor_table.proofs.OneClassLaws.{known-zero, darts-plain, darts-first}
 use Rattle.dart_envelope.specs.ClassBoards.{class_board, board_by, MayHave}
 use Rattle.metapath_walk.specs.TypeClasses.{type_class, type_classes, known_class}
@@ -23,7 +26,7 @@ use Rattle.node2vec_walk.specs.Nearness.{class_to, classes_after, class_factors}
 use Rattle.node2vec_walk.specs.Nearness as near
 use Rattle.node2vec_walk.proofs.NodeLaws as node
 use Rattle.node2vec_walk.proofs.RunLaws.{known-in_run}
-use Rattle.walk_top.specs.Choices.{IsChoice}
+use Rattle.walk_top.specs.Choices.{IsChoice, IsStripRun}
 use Rattle.walk_top.specs.RuleFactors.{AreTyped}
 use Rattle.walk_top.specs.declared.ruling.TypedFactors.{TypedFactors}
 use Rattle.walk_top.specs.declared.ruling.TypedFactors.TheVariants as typed
@@ -120,6 +123,33 @@ choice-near ws edges v t p q out from to stored long fits hp hq begins ends with
       };
     }
 
+-- what may be the class where the return class is set apart may be it
+may-any : (known : Option ℕ) (class : ℕ) → MayHave known 1 class → MayHave known 0 class
+may-any None class h = omega arith
+may-any (Some k) class h = h
+
+-- a choice under node2vec by the run that a board asks for, if any
+pub choice-near-by : (ws : List ℕ) (edges : List Edge) (v t : ℕ) (p q : Fraction) (out : List OutEdge) (run : Option (ℕ × ℕ))
+    → out ≡ map out_edge (row edges v) → length out ≡ length ws
+    → length ws * sum ws * greatest_factor (Node2vec p q) ≤ 2 ^ 62 → 1 ≤ p.top → 1 ≤ q.top
+    → IsStripRun (class_factors p q) t (row edges v) run
+    → IsChoice 3 ws (class_factors p q) (map (near.known_class t) out) (classes_after edges t out) run
+choice-near-by ws edges v t p q out (Some run) stored long fits hp hq is =
+    choice-near ws edges v t p q out run.0 run.1 stored long fits hp hq is.0 is.1 is.2
+choice-near-by ws edges v t p q out None stored long fits hp hq is =
+    record {
+      sized = refl;
+      long = length-map out (near.known_class t) ∙ long;
+      classed = λ edge low. node.known-below t edge out;
+      fits = rw ((node.class_factors-are p q).greatest) fits;
+      run = tt;
+      suits = record {
+        long = length-map out (λ e. class_to e.dst t (has_edge edges t e.dst)) ∙ long;
+        below = λ edge low. node.class-below edges t edge out (rw long low);
+        may = λ edge low. may-any _ _ (may-have _ _ (node.class-known edges t edge out (rw long low)));
+      };
+    }
+
 -- a choice from one class is one without a rule
 pub one-plain : (n count : ℕ) (edges : List Edge) (plan : Settings) (s : State) (out : List Edge) (ws : List ℕ) (words : ℕ → ℕ) (place : ℕ)
     → plan.rule ≡ Plain → weights_of plan.weighted out ≡ ws → count ≡ length out
@@ -153,6 +183,31 @@ pub three-near : (n : ℕ) (edges : List Edge) (plan : Settings) (s : State) (p 
 three-near n edges plan s p q t from to out ws words place rule before weights begins ends =
     let few : to - from ≡ ends_at (Some t) (ends_of out) = omega (arith, ends) in
     rw (← weights, few, begins) (ap (λ b. darts n b words place) (sym (node.board-after edges plan s p q t out rule before)))
+
+-- the greatest of three where the first isn't above the others
+greatest-flat : (a b c : ℕ) → a ≤ greatest_of (b ∷ c ∷ []) → greatest_of (a ∷ b ∷ c ∷ []) ≡ greatest_of (b ∷ c ∷ [])
+greatest-flat a b c h = grind (arith, nat_tests)
+
+-- and by the run that a board asks for, if any
+pub three-near-by : (n : ℕ) (edges : List Edge) (plan : Settings) (s : State) (p q : Fraction) (t : ℕ) (run : Option (ℕ × ℕ)) (out : List Edge) (ws : List ℕ) (words : ℕ → ℕ) (place : ℕ)
+    → plan.rule ≡ Node2vec p q → s.previous ≡ Some t → weights_of plan.weighted out ≡ ws
+    → IsStripRun (class_factors p q) t out run
+    → darts n (board_by (class_board ws (class_factors p q) (map (near.known_class t) (map out_edge out)) run) (classes_after edges t (map out_edge out))) words place
+    ≡ darts n (board_of edges plan s out) words place
+three-near-by n edges plan s p q t (Some run) out ws words place rule before weights is =
+    three-near n edges plan s p q t run.0 run.1 out ws words place rule before weights is.0 is.1
+three-near-by n edges plan s p q t None out ws words place rule before weights flat =
+    let fs : List ℕ = class_factors p q in
+    let each : List ℕ = map (slice_index fs) (classes_after edges t (map out_edge out)) in
+    let h : ℕ = greatest_of (drop 1 fs) in
+    let from : ℕ = ends_below (Some t) (ends_of out) in
+    let to : ℕ = from + ends_at (Some t) (ends_of out) in
+    let high : greatest_of fs ≡ h = greatest-flat (return_factor p q) (common_factor p q) (far_factor p q) flat in
+    let level : slice_index fs 0 - h ≡ 0 = omega (arith, flat) in
+    ap (λ k. darts n (flat_board ws each k 0 0) words place) high
+    ∙ sym (darts-flat n ws each h from (to - from) words place)
+    ∙ ap (λ l. darts n (record { weights = ws; factors = each; height = h; lift = l; back_from = from; back_count = to - from }) words place) (sym level)
+    ∙ three-near n edges plan s p q t from to out ws words place rule before weights refl refl
 
 -- the rule of each kind of factors
 pub plain-rule : (r : Rule) (t : TypedFactors) → t ≡ typed.Plain → AreTyped r t → r ≡ Plain

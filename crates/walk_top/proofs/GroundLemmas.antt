@@ -1,6 +1,6 @@
 -- Tables, row by row.
-use Rattle.std.proofs.Common.{◌≡◌, ◌<◌, ◌≤◌, ◌+◌, ◌*◌, ◌^◌, ℕ, zero, suc, Bool, true, false, List, [], ◌∷◌, ◌++◌, length, map, sum, take, get_or, Option, Some, None, refl, ap, sym, subst, ◌∙◌, arith}
-use Rattle.std.specs.Prelude.{All, unwrap_or}
+use Rattle.std.proofs.Common.{◌≡◌, ◌<◌, ◌≤◌, ◌+◌, ◌*◌, ◌^◌, ℕ, zero, suc, Bool, true, false, List, [], ◌∷◌, ◌++◌, length, map, sum, take, get_or, refl, ap, sym, ◌∙◌, arith}
+use Rattle.std.specs.Prelude.{All}
 use Rattle.std.proofs.lemmas.List.Elements.{All-map}
 use Rattle.walk_model.specs.declared.graph.Edge.{Edge}
 use Rattle.walk_model.specs.declared.programme.Rule.{Rule}
@@ -15,7 +15,6 @@ use Rattle.std.proofs.lemmas.List.{length-map, map-append}
 use Rattle.csr_store.specs.declared.out_edge.OutEdge.{OutEdge}
 use Rattle.csr_store.specs.OutEdges.{out_edge}
 use Rattle.csr_store.specs.Shelves.{IsOutEdge}
-use Rattle.walk_top.specs.Grounds.{table_of}
 use Rattle.walk_top.specs.OutWeights.{out_weight}
 
 -- the weights of a stored row are those of the row
@@ -51,21 +50,6 @@ pub out-range : (weighted : Bool) (n : ℕ) (row : List OutEdge) → All (IsOutE
     → All (λ w. (1 ≤ w) × (w < 2 ^ 62)) (map (out_weight weighted) row)
 out-range weighted n row h =
     All-map (λ w. (1 ≤ w) × (w < 2 ^ 62)) (out_weight weighted) row (λ k d low. weight-range weighted n (get_or row k d) (h k d low))
-
--- what a table says of the weights that it is made of
-pub table-some : (ws t : List ℕ) (o : Option (List ℕ)) → o ≡ table_of ws → o ≡ Some t → ws ≡ t
-table-some [] t o of is = absurd (none_some t (sym of ∙ is))
-  where
-    none_some : (t : List ℕ) → None ≡ Some t → ⊥
-    none_some t e = let P : Option (List ℕ) → Type 0 = λ o. elim o as (λ _. Type 0) [ None ↦ Unit {0} | Some x ↦ ⊥ ] in subst P e tt
-table-some (w ∷ ws) t o of is = ap (λ (p : Option (List ℕ)). unwrap_or p []) (sym of ∙ is)
-
-pub table-none : (ws : List ℕ) (o : Option (List ℕ)) → o ≡ table_of ws → o ≡ None → ws ≡ []
-table-none [] o of is = refl
-table-none (w ∷ ws) o of is = absurd (some_none (w ∷ ws) (sym of ∙ is))
-  where
-    some_none : (t : List ℕ) → Some t ≡ None → ⊥
-    some_none t e = let P : Option (List ℕ) → Type 0 = λ o. elim o as (λ _. Type 0) [ None ↦ ⊥ | Some x ↦ Unit {0} ] in subst P e tt
 
 greatest-plain : greatest_factor Plain ≡ 1
 unfolding greatest_factor

@@ -11,7 +11,7 @@ use Rattle.walk_model.specs.Walk.{chosen, moved_along}
 use Rattle.walk_model.proofs.BoardLemmas.{length-weights_of}
 
 -- the edge of a row that was taken
-moved-out : (s : State) (out : List Edge) (edge next : ℕ) → edge < length out
+pub moved-out : (s : State) (out : List Edge) (edge next : ℕ) → edge < length out
     → moved_along s out (edge, next) ≡ Some (record {
       at = slice_index (ends_of out) edge;
       previous = Some s.at;
@@ -28,18 +28,12 @@ moved-out s (e ∷ es) (suc edge) next there = moved-out s es edge next (omega a
 pub chosen-some : (c : Course) (s : State) (out : List Edge) (place edge next : ℕ) (ws : List ℕ)
     → weights_of c.plan.weighted out ≡ ws → edge < length ws
     → Some (edge, next) ≡ darts c.plan.retries (board_of c.edges c.plan s out) c.words place
-    → Some (record {
-      at = slice_index (ends_of out) edge;
-      previous = Some s.at;
-      phase = s.phase + 1;
-      steps = s.steps + 1;
-      place = next;
-    }) ≡ chosen c s out place
+    → moved_along s out (edge, next) ≡ chosen c s out place
 unfolding chosen
 chosen-some c s out place edge next ws is there taken =
     let long : length ws ≡ length out = ap (λ l. length l) (sym is) ∙ length-weights_of c.plan.weighted out in
     let some : (length out == 0) ≡ false = grind (arith, nat_tests) in
-    rw some (sym (ap (option_and_then (moved_along s out)) (sym taken) ∙ moved-out s out edge next (omega (arith, long, there))))
+    rw some (ap (option_and_then (moved_along s out)) taken)
 
 -- a choice that gives none
 pub chosen-nothing : (c : Course) (s : State) (out : List Edge) (place : ℕ) (ws : List ℕ)

@@ -1,5 +1,8 @@
 -- Rows that a step can choose from.
-use Rattle.std.specs.Prelude.{◌≡◌, ℕ, ◌*◌, ◌^◌, ◌≤◌, List, length, sum, Option, IfSome}
+use Rattle.std.specs.Prelude.{◌≡◌, ℕ, ◌+◌, ◌*◌, ◌^◌, ◌≤◌, List, length, sum, drop, slice_index, Option, Some, None, IfSome}
+use Rattle.walk_model.specs.declared.graph.Edge.{Edge}
+use Rattle.walk_model.specs.Graph.{ends_of}
+use Rattle.walk_model.specs.Dart.{ends_below, ends_at}
 use Rattle.factor_table.specs.Factors.{greatest_of}
 use Rattle.dart_envelope.specs.ClassBoards.{class_board, Suits}
 use Rattle.dart_envelope.specs.Conditions.{HaveFactors, IsReturnRun}
@@ -13,3 +16,9 @@ pub record IsChoice (count : ℕ) (weights factors : List ℕ) (known : List (Op
   pub fits : length weights * sum weights * greatest_of factors ≤ 2 ^ 62
   pub run : IfSome back (IsReturnRun count factors known)
   pub suits : Suits (class_board weights factors known back) classes
+
+-- the run of a row's edges back to a vertex, or none where the factor of class 0 doesn't rise above the others
+abbrev pub IsStripRun : List ℕ → ℕ → List Edge → Option (ℕ × ℕ) → Type 0
+IsStripRun factors back out None = slice_index factors 0 ≤ greatest_of (drop 1 factors)
+IsStripRun factors back out (Some run) =
+    (run.0 ≡ ends_below (Some back) (ends_of out)) × (run.1 ≡ run.0 + ends_at (Some back) (ends_of out)) × (run.1 ≤ length out)

@@ -72,7 +72,8 @@ pub(crate) struct NearClasses<'a> {
     pub rows: &'a Rows,
     pub at: u32,
     pub back: u32,
-    pub run: (usize, usize),
+    // where a board asks for it
+    pub run: Option<(usize, usize)>,
     ghost at_within: { at < rows.now.vertices },
     ghost back_within: { back < rows.now.vertices },
 }
@@ -89,7 +90,7 @@ impl<'a> Classes for NearClasses<'a> {
 impl<'a> RowClasses for NearClasses<'a> {
     ghost classes = { λ s. classes_after s.rows.now.edges s.back (map out_edge (row s.rows.now.edges s.at)) };
 
-    ghost back = { λ s. Some s.run };
+    ghost back = { λ s. s.run };
 
     #[inline]
     fn class_at(&self, edge: usize) -> usize {
@@ -99,6 +100,6 @@ impl<'a> RowClasses for NearClasses<'a> {
 
     #[inline]
     fn back(&self) -> Option<(usize, usize)> {
-        Some(self.run)
+        self.run
     }
 }

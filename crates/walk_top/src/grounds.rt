@@ -1,13 +1,13 @@
 //! A graph that is ready to be walked.
 
-ghost use Rattle.std.specs.Prelude.{◌≡◌, ◌≤◌, ◌<◌, ◌^◌, length, map, All, IfOk};
+ghost use Rattle.std.specs.Prelude.{◌≡◌, ◌≤◌, ◌<◌, ◌+◌, ◌^◌, ℕ, List, [], length, map, All, IfOk, IfSome, IfNone, IsTrue};
 ghost use Rattle.walk_model.specs.Graph.{row, weights_of};
 ghost use Rattle.alias_table.specs.Columns.{IsRow};
-ghost use Rattle.walk_top.specs.Grounds.{AreTables, table_of};
-ghost use Rattle.walk_top.specs.OutWeights.{out_weight};
+ghost use Rattle.walk_top.specs.Grounds.{AreTables};
 
+use crate::tabling::{Tables, tables_by};
 use alias_table::AliasTable;
-use csr_store::{OutEdge, Rows};
+use csr_store::Rows;
 use std::alloc::Global;
 use walk_model::Memory;
 
@@ -16,52 +16,8 @@ use walk_model::Memory;
 pub(crate) struct Ground {
     pub rows: Rows,
     pub weighted: bool,
-    pub tables: Vec<Option<AliasTable>>,
-    ghost of_rows: { AreTables weighted rows tables.items },
-}
-
-/// The static weight of an edge.
-fn weight_of(weighted: bool, edge: &OutEdge) -> u64
-    ensures { result ≡ out_weight weighted edge.now }
-{
-    if weighted { edge.weight } else { 1 }
-}
-
-/// Puts the static weights of a row in place of what a list holds.
-fn put_weights(weights: &mut Vec<u64>, weighted: bool, row: &[OutEdge]) -> Result<(), Memory>
-    ensures { IfOk result (λ _. weights.new.items ≡ map (out_weight weighted) row.now) }
-{
-    weights.clear();
-    for edge in row {
-        weights.push(weight_of(weighted, edge))?;
-    }
-    Ok(())
-}
-
-/// The table of weights, if there are any.
-fn table_by(alloc: Global, weights: &[u64]) -> Result<Option<AliasTable>, Memory>
-    requires few { length weights.now < 2 ^ 31 }
-    requires range { All (λ w. (1 ≤ w) × (w < 2 ^ 62)) weights.now }
-    ensures { IfOk result (λ t. t ≡ table_of weights.now) }
-{
-    if weights.is_empty() {
-        return Ok(None);
-    }
-    let table = AliasTable::build(alloc, weights)?;
-    Ok(Some(table))
-}
-
-/// The tables of all rows.
-fn tables_by(alloc: Global, rows: &Rows, weighted: bool) -> Result<Vec<Option<AliasTable>>, Memory>
-    ensures { IfOk result (λ ts. AreTables weighted rows.now ts.items) }
-{
-    let mut tables = Vec::with_capacity(alloc, rows.vertices() as usize)?;
-    let mut weights = Vec::new(alloc);
-    for v in 0..rows.vertices() {
-        put_weights(&mut weights, weighted, rows.row(v))?;
-        tables.push(table_by(alloc, &weights)?)?;
-    }
-    Ok(tables)
+    tables: Tables,
+    ghost of_rows: { AreTables weighted rows tables.of_vertex.items tables.made.items },
 }
 
 impl Ground {
@@ -76,5 +32,19 @@ impl Ground {
             weighted,
             tables,
         })
+    }
+
+    /// The table of the edges from a vertex, if there are any.
+    #[inline]
+    pub(crate) fn table(&self, v: u32) -> Option<&AliasTable>
+        requires { v < self.now.rows.vertices }
+        ensures table { IfSome result (λ t. weights_of self.now.weighted (row self.now.rows.edges v) ≡ t.now) }
+        ensures none { IfNone result (weights_of self.now.weighted (row self.now.rows.edges v) ≡ []) }
+    {
+        if self.rows.row(v).is_empty() {
+            return None;
+        }
+        let number = self.tables.of_vertex[v as usize];
+        Some(&self.tables.made[number as usize])
     }
 }

@@ -1,62 +1,21 @@
-//! Walks over rows and tables, one walker after another.
+//! Walks over rows and tables, by the numbers of the walkers.
 
-ghost use Rattle.std.specs.Prelude.{◌≡◌, ◌≤◌, ◌<◌, ◌+◌, ◌*◌, ◌^◌, ℕ, IfOk, length, map, IsTrue};
-ghost use Rattle.walk_top.specs.RuleFactors.{AreFactors};
-ghost use Rattle.walk_model.specs.Words.{word};
-ghost use Rattle.walk_model.specs.Course.{course};
+ghost use Rattle.std.specs.Prelude.{◌≡◌, ◌≤◌, ◌<◌, ◌+◌, ◌*◌, ◌++◌, ◌^◌, ℕ, IfOk, All, length, map, IsTrue};
 ghost use Rattle.walk_model.specs.Walk.{walk, walker_count};
 ghost use Rattle.walk_model.specs.Fits.{reach_of};
 ghost use Rattle.walk_model.specs.Lists.{item_lists};
+ghost use Rattle.walk_top.specs.Outputs.{below};
 ghost use Rattle.walk_top.specs.Starts.{start_rank, StartsIn, rank_walk, rank_walks};
+ghost use Rattle.walk_top.specs.Underway.{IsOnWay, whole_walk};
 
 use crate::grounds::Ground;
-use crate::ruling::{RuleFactors, rule_factors};
-use crate::stepping::step;
+use crate::ruling::rule_factors;
+use crate::touring::{Tour, put_paths, walk_to_ends};
 use std::alloc::Global;
 use std::marker::Brand;
 use std::sync::ledger::{Blank, Ledger};
-use walk_model::{Finished, Memory, Plan, StartRule, State, Steps};
-use walker_stream::{StreamReader, Streams};
-
-/// The walk of a walker from a rank, in ranks.
-fn tour<L: Ledger>(
-    alloc: Global,
-    ground: &Ground,
-    plan: &Plan,
-    factors: &RuleFactors<'_>,
-    start: u32,
-    reader: &mut StreamReader,
-    steps: &mut Steps<L>,
-) -> Result<Vec<u32>, Memory>
-    requires rule { AreFactors plan.now.rule factors.now }
-    requires weighted { ground.now.weighted ≡ plan.now.weighted }
-    requires start { start < ground.now.rows.vertices }
-    requires fits { (v : ℕ) → v < ground.now.rows.vertices → reach_of ground.now.rows.edges plan.now v ≤ 2 ^ 62 }
-    requires place { reader.old.place ≡ 0 }
-    ensures walk { IfOk result (λ v. v.items ≡ walk (course ground.now.rows.edges plan.now (word reader.old.seed reader.old.walker) start) plan.now.length) }
-    ensures seed { reader.new.seed ≡ reader.old.seed }
-{
-    let length = plan.length;
-    let mut path = Vec::with_capacity(alloc, length as usize + 1)?;
-    path.push(start)?;
-    let mut s = State {
-        at: start,
-        previous: None,
-        phase: 0,
-        steps: 0,
-        place: 0,
-    };
-    for _ in 0..length {
-        match step(ground, plan, factors, start, s, reader, steps) {
-            None => return Ok(path),
-            Some(t) => {
-                path.push(t.at)?;
-                s = t;
-            }
-        }
-    }
-    Ok(path)
-}
+use walk_model::{Finished, Memory, Plan, StartRule, Steps};
+use walker_stream::Streams;
 
 /// The rank where a walker starts, where `from` is that of the plan's start if it has one.
 fn start_of(rule: StartRule, vertices: u32, from: u32, walker: u64) -> u32
@@ -84,8 +43,38 @@ pub(crate) fn walkers_of(rule: StartRule, vertices: u32) -> u32
     }
 }
 
+/// How many walkers are on their way at a time.
+const AT_A_TIME: u32 = 8;
+
+/// The walkers from one number up to another, at their starts.
+fn walkers_at_start(
+    alloc: Global,
+    ground: &Ground,
+    plan: &Plan,
+    from: u32,
+    seed: u64,
+    first: u32,
+    end: u32,
+) -> Result<Vec<Tour>, Memory>
+    requires starts { StartsIn plan.now.start ground.now.rows.vertices from }
+    requires rising { first ≤ end }
+    requires within { end ≤ walker_count plan.now.start ground.now.rows.vertices }
+    ensures on_way { IfOk result (λ ts. All (IsOnWay ground.now.rows.vertices) ts.items) }
+    ensures left { IfOk result (λ ts. All (λ t. t.left ≤ plan.now.length) ts.items) }
+    ensures walks { IfOk result (λ ts. map (rank_walk ground.now.rows plan.now seed from) (below first) ++ map (whole_walk ground.now.rows plan.now) ts.items ≡ map (rank_walk ground.now.rows plan.now seed from) (below end)) }
+{
+    let streams = Streams::new(seed);
+    let mut tours = Vec::with_capacity(alloc, (end - first) as usize)?;
+    for walker in first..end {
+        let walker = u64::from(walker);
+        let start = start_of(plan.start, ground.rows.vertices(), from, walker);
+        let reader = streams.reader(walker, 0);
+        tours.push(Tour::new(alloc, ground, plan, start, reader)?)?;
+    }
+    Ok(tours)
+}
+
 /// The walks of all walkers, with a counter of steps.
-#[tactic(auto, unfolding(crate::specs::Starts::rank_walk))]
 fn tours_with<L: Ledger>(
     alloc: Global,
     ground: &Ground,
@@ -99,17 +88,16 @@ fn tours_with<L: Ledger>(
     requires fits { (v : ℕ) → v < ground.now.rows.vertices → reach_of ground.now.rows.edges plan.now v ≤ 2 ^ 62 }
     ensures { IfOk result (λ ws. item_lists ws.items ≡ rank_walks ground.now.rows plan.now seed from) }
 {
-    let vertices = ground.rows.vertices();
-    let rule = plan.start;
-    let count = walkers_of(rule, vertices);
+    let count = walkers_of(plan.start, ground.rows.vertices());
     let mut walks = Vec::with_capacity(alloc, count as usize)?;
     let factors = rule_factors(&plan.rule);
-    let mut reader = Streams::new(seed).reader(0, 0);
-    for walker in 0..count {
-        let walker = u64::from(walker);
-        reader.seek(walker, 0);
-        let start = start_of(rule, vertices, from, walker);
-        walks.push(tour(alloc, ground, plan, &factors, start, &mut reader, steps)?)?;
+    let mut first = 0;
+    while first < count {
+        let end = first + AT_A_TIME.min(count - first);
+        let mut tours = walkers_at_start(alloc, ground, plan, from, seed, first, end)?;
+        walk_to_ends(&mut tours, ground, plan, &factors, steps)?;
+        put_paths(tours, &mut walks)?;
+        first = end;
     }
     Ok(walks)
 }

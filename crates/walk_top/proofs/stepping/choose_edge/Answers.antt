@@ -1,4 +1,4 @@
-use Rattle.std.proofs.Common.{rules, ◌≡◌, ℕ, ◌*◌, ◌^◌, ◌≤◌, List, [], ◌∷◌, length, map, replicate, sum, Some, None, refl, ap, sym, subst, ◌∙◌}
+use Rattle.std.proofs.Common.{rules, ◌≡◌, ℕ, ◌*◌, ◌^◌, ◌≤◌, List, [], ◌∷◌, length, map, replicate, sum, None, refl, ap, sym, subst, ◌∙◌}
 use Rattle.std.proofs.lemmas.List.{length-map}
 use Rattle.walk_model.specs.declared.graph.Edge.{Edge}
 use Rattle.walk_model.specs.declared.programme.Rule.TheVariants.{Plain, Scheme, Node2vec}
@@ -15,7 +15,7 @@ use Rattle.node2vec_walk.specs.Nearness.{classes_after, class_factors}
 use Rattle.node2vec_walk.specs.Nearness as near
 use Rattle.walk_top.specs.Choices.{IsChoice}
 use Rattle.walk_top.proofs.GroundLemmas.{taken-long}
-use Rattle.walk_top.proofs.ChoiceLemmas.{IsNear, choice-one, choice-scheme, choice-near, fits-one, greatest-plain, greatest-near, greatest-scheme, plain-rule, scheme-rule, near-rule, one-plain, one-first, two-scheme, three-near}
+use Rattle.walk_top.proofs.ChoiceLemmas.{IsNear, choice-one, choice-scheme, choice-near-by, fits-one, greatest-plain, greatest-near, greatest-scheme, plain-rule, scheme-rule, near-rule, one-plain, one-first, two-scheme, three-near-by}
 use Rattle.walk_top.proofs.stepping.choose_edge.Goals as goal
 
 pub choose-requires : goal.choose-requires
@@ -57,10 +57,10 @@ choose-requires-in-Node2vec-Some g c =
     let by : IsNear c.args.plan.now.rule c.in-Node2vec-Some.factors = near-rule c.args.plan.now.rule c.args.factors.now.typed c.in-Node2vec-Some.factors c.in-Node2vec-Some.is-0 c.requires.rule.typed in
     let fits : length c.args.table.now * sum c.args.table.now * greatest_factor (Node2vec by.p by.q) ≤ 2 ^ 62 = rw by.rule at reach in
     let size : length (map out_edge out) ≡ length c.args.table.now = ap (λ (l : List OutEdge). length l) (sym stored) ∙ sym long in
-    let choice : IsChoice 3 c.args.table.now c.in-Node2vec-Some.factors (map (near.known_class c.in-Node2vec-Some.back) (map out_edge out)) (classes_after edges c.in-Node2vec-Some.back (map out_edge out)) (Some c.run.result) =
+    let choice : IsChoice 3 c.args.table.now c.in-Node2vec-Some.factors (map (near.known_class c.in-Node2vec-Some.back) (map out_edge out)) (classes_after edges c.in-Node2vec-Some.back (map out_edge out)) c.return_run.result =
     rw by.factors
-    (choice-near c.args.table.now edges c.args.s.at c.in-Node2vec-Some.back by.p by.q (map out_edge out) c.run.result.0 c.run.result.1 refl size fits by.above_p by.above_q
-    c.run.ensures.from c.run.ensures.to c.run.ensures.within) in
+    (choice-near-by c.args.table.now edges c.args.s.at c.in-Node2vec-Some.back by.p by.q (map out_edge out) c.return_run.result refl size fits by.above_p by.above_q
+    (rw by.factors at c.return_run.ensures)) in
     (search rules, (choice, (search rules, search rules)))
 
 pub choose-requires-in-Scheme-default : goal.choose-requires-in-Scheme-default
@@ -127,8 +127,8 @@ returns-in-Node2vec-Some-clause-edge g c =
     let t : ℕ = c.in-Node2vec-Some.back in
     let by : IsNear c.args.plan.now.rule c.in-Node2vec-Some.factors = near-rule c.args.plan.now.rule c.args.factors.now.typed c.in-Node2vec-Some.factors c.in-Node2vec-Some.is-0 c.requires.rule.typed in
     c.choose-in-Node2vec-Some.ensures.edge
-    ∙ ap (λ (fs : List ℕ). darts retries (board_by (class_board ws fs (map (near.known_class t) (map out_edge out)) (Some c.run.result)) (classes_after edges t (map out_edge out))) words place) by.factors
-    ∙ three-near retries edges c.args.plan.now c.args.s by.p by.q t c.run.result.0 c.run.result.1 out ws words place by.rule c.in-Node2vec-Some.is-1 c.requires.weights c.run.ensures.from c.run.ensures.to
+    ∙ ap (λ (fs : List ℕ). darts retries (board_by (class_board ws fs (map (near.known_class t) (map out_edge out)) c.return_run.result) (classes_after edges t (map out_edge out))) words place) by.factors
+    ∙ three-near-by retries edges c.args.plan.now c.args.s by.p by.q t c.return_run.result out ws words place by.rule c.in-Node2vec-Some.is-1 c.requires.weights (rw by.factors at c.return_run.ensures)
     ∙ ap (λ n. darts n (board_of edges c.args.plan.now c.args.s out) words place) tries
 
 pub returns-in-Scheme-default-clause-edge : goal.returns-in-Scheme-default-clause-edge
