@@ -1,4 +1,4 @@
--- The ends of stored rows are those of the rows.
+-- The ends and the types of stored rows are those of the rows.
 use Rattle.std.proofs.Common.{◌≡◌, ℕ, ◌+◌, ◌-◌, ◌<◌, List, length, map, get_or, take, drop, arith, ap, ◌∙◌}
 use Rattle.std.specs.Prelude.{slice_index, All}
 use Rattle.std.proofs.lemmas.List.{drop-map, take-map, length-map, get_or_default}
@@ -7,7 +7,7 @@ use Rattle.walk_model.specs.declared.graph.Edge.{Edge}
 use Rattle.walk_model.specs.Graph.{row, ends_of}
 use Rattle.csr_store.specs.declared.out_edge.OutEdge.{OutEdge}
 use Rattle.csr_store.specs.declared.rows.Rows.TheInside.{Inside}
-use Rattle.csr_store.specs.OutEdges.{out_edge}
+use Rattle.csr_store.specs.OutEdges.{out_edge, kinds_of}
 use Rattle.csr_store.specs.Shelves.{stored_row}
 use Rattle.csr_store.specs.Stored.{graph_of, IsStored}
 use Rattle.csr_store.proofs.ListLemmas.{map-map}
@@ -22,27 +22,27 @@ pub length-ends_of : (out : List Edge) → length (ends_of out) ≡ length out
 unfolding ends_of
 length-ends_of out = length-map out (λ (e : Edge). e.dst)
 
--- the ends between the places of a row are those of its stored edges
-ends-between : (a : Inside) → IsStored a → (v from to : ℕ) (ends : List ℕ) → v < a.vertices
-    → from ≡ get_or a.starts.items v from → to ≡ get_or a.starts.items (v + 1) to → ends ≡ a.ends.items
-    → take (to - from) (drop from ends) ≡ map (λ e. e.dst) (stored_row a.starts.items a.out.items v)
-ends-between a s v from to ends inside first last is =
+-- what a list has of each edge is, between the places of a row, what it has of the row's stored edges
+kept-between : (a : Inside) → IsStored a → (f : OutEdge → ℕ) (v from to : ℕ) (kept : List ℕ) → v < a.vertices
+    → from ≡ get_or a.starts.items v from → to ≡ get_or a.starts.items (v + 1) to → kept ≡ map f a.out.items
+    → take (to - from) (drop from kept) ≡ map f (stored_row a.starts.items a.out.items v)
+kept-between a s f v from to kept inside first last is =
     let long = s.starts in
     let low : ℕ = slice_index a.starts.items v in
     let high : ℕ = slice_index a.starts.items (v + 1) in
     let from_is : from ≡ low = first ∙ get_or_default a.starts.items v from 0 (omega arith) in
     let to_is : to ≡ high = last ∙ get_or_default a.starts.items (v + 1) to 0 (omega arith) in
-    ap (λ n. take (to - n) (drop n ends)) from_is ∙ ap (λ n. take (n - low) (drop low ends)) to_is
-    ∙ ap (λ l. take (high - low) (drop low l)) (is ∙ s.ends)
-    ∙ ap (take (high - low)) (drop-map (λ (e : OutEdge). e.dst) low a.out.items)
-    ∙ take-map (λ (e : OutEdge). e.dst) (high - low) (drop low a.out.items)
+    ap (λ n. take (to - n) (drop n kept)) from_is ∙ ap (λ n. take (n - low) (drop low kept)) to_is
+    ∙ ap (λ l. take (high - low) (drop low l)) is
+    ∙ ap (take (high - low)) (drop-map f low a.out.items)
+    ∙ take-map f (high - low) (drop low a.out.items)
 
--- and so are those of the row
+-- so the ends there are those of the row
 pub ends-stored : (a : Inside) → IsStored a → (v from to : ℕ) (ends : List ℕ) → v < a.vertices
     → from ≡ get_or a.starts.items v from → to ≡ get_or a.starts.items (v + 1) to → ends ≡ a.ends.items
     → take (to - from) (drop from ends) ≡ ends_of (row (graph_of a).edges v)
 ends-stored a s v from to ends inside first last is =
-    ends-between a s v from to ends inside first last is
+    kept-between a s (λ (e : OutEdge). e.dst) v from to ends inside first last (is ∙ s.ends)
     ∙ ap (map (λ (e : OutEdge). e.dst)) (s.rows v inside) ∙ ends-kept (row (graph_of a).edges v)
 
 -- and they are vertices
@@ -51,5 +51,14 @@ pub ends-vertices : (a : Inside) → IsStored a → (v from to : ℕ) (ends : Li
     → All (λ t. t < a.vertices) (take (to - from) (drop from ends))
 ends-vertices a s v from to ends inside first last is =
     let edges = s.edges v inside in
-    All-same (λ t. t < a.vertices) _ _ (ends-between a s v from to ends inside first last is)
+    All-same (λ t. t < a.vertices) _ _ (kept-between a s (λ (e : OutEdge). e.dst) v from to ends inside first last (is ∙ s.ends))
     (All-map (λ t. t < a.vertices) (λ (e : OutEdge). e.dst) (stored_row a.starts.items a.out.items v) (λ k d h. (edges k d h).2))
+
+-- and the types there are those of the row
+pub kinds-stored : (a : Inside) → IsStored a → (v from to : ℕ) (kinds : List ℕ) → v < a.vertices
+    → from ≡ get_or a.starts.items v from → to ≡ get_or a.starts.items (v + 1) to → kinds ≡ a.kinds.items
+    → take (to - from) (drop from kinds) ≡ kinds_of (row (graph_of a).edges v)
+kinds-stored a s v from to kinds inside first last is =
+    kept-between a s (λ (e : OutEdge). e.kind) v from to kinds inside first last (is ∙ s.kinds)
+    ∙ ap (map (λ (e : OutEdge). e.kind)) (s.rows v inside)
+    ∙ map-map (λ (e : OutEdge). e.kind) out_edge (row (graph_of a).edges v)

@@ -12,6 +12,10 @@ out_edge e = record { dst = e.dst; kind = e.kind; weight = e.weight }
 abbrev pub edge_from : ℕ → OutEdge → Edge
 edge_from v o = record { src = v; dst = o.dst; weight = o.weight; kind = o.kind }
 
+-- the types of a row's edges
+abbrev pub kinds_of : List Edge → List ℕ
+kinds_of edges = map (λ e. e.kind) edges
+
 -- the edges from a vertex in the order of the list
 abbrev pub leaving : List Edge → ℕ → List OutEdge
 leaving edges v = map out_edge (filter (λ e. e.src == v) edges)

@@ -13,8 +13,8 @@ graph_of a = record {
   vertices = a.vertices;
 }
 
--- the rows follow each other to the end, each is the row of its vertex, and the ends are those of the
--- edges
+-- the rows follow each other to the end, each is the row of its vertex, and the ends and the types are
+-- those of the edges
 pub record IsStored (a : Inside) : Type 0 where
   pub starts : length a.starts.items ≡ a.vertices + 1
   pub rising : (v : ℕ) → v < a.vertices → slice_index a.starts.items v ≤ slice_index a.starts.items (v + 1)
@@ -26,3 +26,4 @@ pub record IsStored (a : Inside) : Type 0 where
   pub few : length a.out.items < 2 ^ 31
   pub edges : (v : ℕ) → v < a.vertices → All (IsOutEdge a.vertices) (stored_row a.starts.items a.out.items v)
   pub ends : a.ends.items ≡ map (λ e. e.dst) a.out.items
+  pub kinds : a.kinds.items ≡ map (λ e. e.kind) a.out.items

@@ -3,7 +3,7 @@
 ghost use Rattle.std.specs.Prelude.{◌≡◌, ◌≤◌, ◌<◌, ◌+◌, ◌^◌, ℕ, length, map, slice_index, IfOk, All, Some};
 ghost use Rattle.walk_model.specs.Graph.{row, has_edge, ends_of};
 ghost use Rattle.walk_model.specs.Dart.{ends_below as below, ends_at as at};
-ghost use Rattle.csr_store.specs.OutEdges.{out_edge};
+ghost use Rattle.csr_store.specs.OutEdges.{out_edge, kinds_of};
 ghost use Rattle.csr_store.specs.RowGraph.{HoldsEdges};
 ghost use Rattle.csr_store.specs.Shelves.{IsOutEdge};
 
@@ -18,14 +18,15 @@ use walk_model::{Edge, Memory};
 
 /// The edges of a graph in rows, seen as its edges, row by row, and the number of its vertices.
 ///
-/// An edge takes 20 bytes: 16 in its row, and 4 for its destination in a list of destinations alone,
-/// which steps and searches read.
+/// An edge takes 21 bytes: 16 in its row, 4 for its destination in a list of destinations alone, which
+/// steps and searches read, and 1 for its type in a list of types alone, which steps by a scheme read.
 #[derive(Debug, Drop)]
 pub struct Rows {
     vertices: u32,
     starts: Vec<u32>,
     out: Vec<OutEdge>,
     ends: Vec<u32>,
+    kinds: Vec<u8>,
 }
 
 impl Model for Rows {
@@ -55,6 +56,14 @@ fn destinations(alloc: Global, out: &[OutEdge]) -> Result<Vec<u32>, Memory>
     Ok(ends)
 }
 
+/// The types of edges, one after another.
+fn types(alloc: Global, out: &[OutEdge]) -> Result<Vec<u8>, Memory>
+    ensures { IfOk result (λ r. r.items ≡ map (λ e. e.kind) out.now) }
+{
+    let kinds = out.iter().map(|e| e.kind).collect(alloc)?;
+    Ok(kinds)
+}
+
 /// Counts the edges of each vertex, puts them in its row, and sorts each row.
 fn stored(alloc: Global, edges: &[Edge], vertices: u32) -> Result<Rows, Memory>
     requires ends { All (λ e. (e.src < vertices) × (e.dst < vertices)) edges.now }
@@ -67,11 +76,13 @@ fn stored(alloc: Global, edges: &[Edge], vertices: u32) -> Result<Rows, Memory>
     fill(edges, &mut starts, &mut out);
     sort_rows(alloc, &starts, &mut out)?;
     let ends = destinations(alloc, &out)?;
+    let kinds = types(alloc, &out)?;
     Ok(Rows {
         vertices,
         starts,
         out,
         ends,
+        kinds,
     })
 }
 
@@ -130,6 +141,27 @@ impl Rows {
         ensures below { result < self.now.vertices }
     {
         self.ends_from(v)[edge]
+    }
+
+    /// The types of the edges from a vertex, in their order.
+    #[inline]
+    fn kinds_from(&self, v: u32) -> &[u8]
+        requires { v < self.now.vertices }
+        ensures { result.now ≡ kinds_of (row self.now.edges v) }
+    {
+        let v = v as usize;
+        let (from, to) = (self.starts[v], self.starts[v + 1]);
+        &self.kinds[from as usize..to as usize]
+    }
+
+    /// The type of the edge at a place of the row of `v`.
+    #[inline]
+    pub fn kind(&self, v: u32, edge: usize) -> u8
+        requires vertex { v < self.now.vertices }
+        requires edge { edge < length (row self.now.edges v) }
+        ensures { result ≡ slice_index (kinds_of (row self.now.edges v)) edge }
+    {
+        self.kinds_from(v)[edge]
     }
 
     /// The edges from a vertex by destination, then type, then place in the list.

@@ -5,7 +5,7 @@ use std::alloc::Global;
 use std::test::Fail;
 use walk_model::{Edge, Memory};
 
-fn edge(src: u32, dst: u32, weight: u64) -> Edge
+fn edge(src: u32, dst: u32, weight: u64, kind: u8) -> Edge
     requires ends { (src < 3) × (dst < 3) }
     requires weight { (1 ≤ weight) × (weight < 100) }
     ensures ends { (result.src < 3) × (result.dst < 3) }
@@ -15,7 +15,7 @@ fn edge(src: u32, dst: u32, weight: u64) -> Edge
         src,
         dst,
         weight,
-        kind: 0,
+        kind,
     }
 }
 
@@ -26,10 +26,10 @@ fn cycle(alloc: Global) -> Result<Vec<Edge>, Memory>
     ensures weights { IfOk result (λ r. All (λ e. (1 ≤ e.weight) × (e.weight < 2 ^ 62)) r.items) }
 {
     let mut edges = Vec::new(alloc);
-    edges.push(edge(0, 1, 1))?;
-    edges.push(edge(1, 2, 1))?;
-    edges.push(edge(2, 0, 1))?;
-    edges.push(edge(0, 1, 2))?;
+    edges.push(edge(0, 1, 1, 4))?;
+    edges.push(edge(1, 2, 1, 5))?;
+    edges.push(edge(2, 0, 1, 6))?;
+    edges.push(edge(0, 1, 2, 7))?;
     Ok(edges)
 }
 
@@ -46,6 +46,7 @@ fn rows_of_the_cycle(rt: HostRuntime) -> Result<(), Fail> {
     assert_eq!(rt; row[1].weight, 2);
     assert_eq!(rt; row[1].dst, 1);
     assert_eq!(rt; (rows.end(0, 0), rows.end(0, 1)), (1, 1));
+    assert_eq!(rt; (rows.kind(0, 0), rows.kind(0, 1)), (4, 7));
     let runs = [
         (0u32, 1u32, 0usize, 2usize),
         (0, 2, 2, 2),

@@ -8,9 +8,13 @@ use Rattle.csr_store.specs.declared.out_edge.OutEdge.{OutEdge}
 use Rattle.csr_store.specs.OutEdges.{out_edge}
 use Rattle.factor_table.specs.Factors.{greatest_of}
 
--- the class of an edge: 0 where it has the wanted type, else 1
+-- the class of an edge of a type: 0 where that is the wanted type, else 1
+abbrev pub class_of_type : ℕ → ℕ → ℕ
+class_of_type kind wanted = if kind == wanted then 0 else 1
+
+-- the class of an edge
 abbrev pub type_class : ℕ → OutEdge → ℕ
-type_class wanted e = if e.kind == wanted then 0 else 1
+type_class wanted e = class_of_type e.kind wanted
 
 -- the classes of a row's edges
 abbrev pub type_classes : ℕ → List OutEdge → List ℕ

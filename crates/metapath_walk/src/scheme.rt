@@ -2,7 +2,7 @@
 
 ghost use Rattle.std.specs.Prelude.{◌≡◌, [], ◌∷◌, map};
 ghost use Rattle.walk_model.specs.Factor.{wanted_kind};
-ghost use Rattle.metapath_walk.specs.TypeClasses.{known_class, AreSchemeFactors};
+ghost use Rattle.metapath_walk.specs.TypeClasses.{class_of_type, known_class, AreSchemeFactors};
 
 use csr_store::OutEdge;
 use factor_table::{Classes, FactorTable};
@@ -25,6 +25,14 @@ pub fn scheme_factors() -> FactorTable<2>
     FactorTable::new([1, 0])
 }
 
+/// The class of an edge of a type: 0 where that is the wanted type, else 1.
+#[inline]
+pub fn class_of_type(kind: u8, wanted: u8) -> usize
+    ensures { result ≡ class_of_type kind wanted }
+{
+    if kind == wanted { 0 } else { 1 }
+}
+
 /// A row whose edges are classed by their type. Each class is known.
 #[derive(Clone, Copy, Debug)]
 pub struct SchemeClasses<'a> {
@@ -37,10 +45,6 @@ impl<'a> Classes for SchemeClasses<'a> {
 
     #[inline]
     fn known(&self, edge: usize) -> Option<usize> {
-        if self.row[edge].kind == self.wanted {
-            Some(0)
-        } else {
-            Some(1)
-        }
+        Some(class_of_type(self.row[edge].kind, self.wanted))
     }
 }

@@ -42,6 +42,7 @@ fn factors_of_a_row(rt: HostRuntime) -> Result<(), Fail> {
     for (place, class, factor) in cases {
         assert!(rt; place < row.len() && class < 2);
         assert_eq!(rt; classes.known(place), Some(class));
+        assert_eq!(rt; class_of_type(row[place].kind, 5), class);
         assert_eq!(rt; factors.factor(class), factor);
     }
     assert_eq!(rt; (factors.greatest(), factors.least()), (1, 0));

@@ -16,7 +16,7 @@ sort_rows-requires-clause-rising c =
     subst IsNonDecreasing (sym (c.deref.ensures.value ∙ items)) up
 
 -- the places of the rows
-starts_of : (c : goal.In_ok-ends) → (with_items c.in_ok-starts.starts c.fill.new.ends).items ≡ c.fill.new.ends
+starts_of : (c : goal.In_ok-kinds) → (with_items c.in_ok-starts.starts c.fill.new.ends).items ≡ c.fill.new.ends
 starts_of c =
     let long = c.in_ok-starts.ensures.len in
     let size : length c.deref_mut.result.now ≡ length c.in_ok-starts.starts.items = ap length c.deref_mut.ensures.value in
@@ -24,7 +24,7 @@ starts_of c =
     with_items_is c.in_ok-starts.starts c.fill.new.ends kept
 
 -- the edges as they are filled in
-old_of : (c : goal.In_ok-ends) → (with_items c.in_ok-out.out c.fill.new.out).items ≡ c.fill.new.out
+old_of : (c : goal.In_ok-kinds) → (with_items c.in_ok-out.out c.fill.new.out).items ≡ c.fill.new.out
 old_of c =
     let long = c.in_ok-out.ensures.len in
     let size : length c.deref_mut-2.result.now ≡ length c.in_ok-out.out.items = ap length c.deref_mut-2.ensures.value in
@@ -32,7 +32,7 @@ old_of c =
     with_items_is c.in_ok-out.out c.fill.new.out kept
 
 -- and as they are sorted
-out_of : (c : goal.In_ok-ends) → (with_items (with_items c.in_ok-out.out c.fill.new.out) c.sort_rows.new.out).items ≡ c.sort_rows.new.out
+out_of : (c : goal.In_ok-kinds) → (with_items (with_items c.in_ok-out.out c.fill.new.out) c.sort_rows.new.out).items ≡ c.sort_rows.new.out
 out_of c =
     let long = c.in_ok-out.ensures.len in
     let value : length c.deref_mut-3.result.now ≡ length c.fill.new.out = ap length (c.deref_mut-3.ensures.value ∙ old_of c) in
@@ -41,7 +41,7 @@ out_of c =
     with_items_is (with_items c.in_ok-out.out c.fill.new.out) c.sort_rows.new.out kept
 
 -- the rows that are stored
-rows_of : (c : goal.In_ok-ends) → AreRows c.args.vertices c.args.edges.now
+rows_of : (c : goal.In_ok-kinds) → AreRows c.args.vertices c.args.edges.now
     (with_items c.in_ok-starts.starts c.fill.new.ends).items
     (with_items (with_items c.in_ok-out.out c.fill.new.out) c.sort_rows.new.out).items
 rows_of c =
@@ -62,6 +62,7 @@ invariant_of-result c =
     let kept : length c.sort_rows.new.out ≡ length c.args.edges.now = omega arith in
     stored _ c.args.edges.now (ap length (out_of c) ∙ kept) c.requires.few (rows_of c)
     (c.in_ok-ends.ensures ∙ ap (map (λ (e : OutEdge). e.dst)) c.deref-2.ensures.value)
+    (c.in_ok-kinds.ensures ∙ ap (map (λ (e : OutEdge). e.kind)) c.deref-3.ensures.value)
 
 pub returns : goal.returns
 returns c = record {
