@@ -3,12 +3,12 @@
 ghost use Rattle.std.specs.Prelude.{◌≡◌, ◌<◌, ℕ, List, Option, Some, None, length, map, replicate, slice_get};
 ghost use Rattle.walk_model.specs.Graph.{row};
 ghost use Rattle.csr_store.specs.OutEdges.{out_edge};
-ghost use Rattle.metapath_walk.specs.TypeClasses.{type_classes};
+ghost use Rattle.metapath_walk.specs.TypeClasses.{type_classes, known_class as known_type_class};
 ghost use Rattle.node2vec_walk.specs.Nearness.{known_class, classes_after};
 
 use csr_store::Rows;
 use factor_table::{Classes, OneClass};
-use metapath_walk::SchemeClasses;
+use metapath_walk::class_of_type;
 use node2vec_walk::{class_of, known_class};
 
 /// A row whose edges' classes can all be asked.
@@ -45,18 +45,32 @@ impl RowClasses for OneClass {
     }
 }
 
-impl<'a> RowClasses for SchemeClasses<'a> {
-    ghost classes = { λ s. type_classes s.wanted s.row.now };
+/// The row of a vertex under a scheme: the rows tell the type of an edge.
+#[derive(Clone, Copy)]
+pub(crate) struct TypeClasses<'a> {
+    pub rows: &'a Rows,
+    pub at: u32,
+    pub wanted: u8,
+    ghost at_within: { at < rows.now.vertices },
+}
+
+impl<'a> Classes for TypeClasses<'a> {
+    ghost known_classes = { λ s. map (known_type_class s.wanted) (map out_edge (row s.rows.now.edges s.at)) };
+
+    #[inline]
+    fn known(&self, edge: usize) -> Option<usize> {
+        Some(class_of_type(self.rows.kind(self.at, edge), self.wanted))
+    }
+}
+
+impl<'a> RowClasses for TypeClasses<'a> {
+    ghost classes = { λ s. type_classes s.wanted (map out_edge (row s.rows.now.edges s.at)) };
 
     ghost back = { λ s. None };
 
     #[inline]
     fn class_at(&self, edge: usize) -> usize {
-        if self.row[edge].kind == self.wanted {
-            0
-        } else {
-            1
-        }
+        class_of_type(self.rows.kind(self.at, edge), self.wanted)
     }
 
     #[inline]

@@ -12,14 +12,14 @@ ghost use Rattle.walk_top.specs.Decisions.{led_to, IsPossible};
 ghost use Rattle.walk_top.specs.RuleFactors.{AreFactors};
 ghost use Rattle.walk_top.specs.Starts.{StandsBelow};
 
-use crate::classing::NearClasses;
+use crate::classing::{NearClasses, TypeClasses};
 use crate::grounds::Ground;
 use crate::ruling::{RuleFactors, TypedFactors};
 use crate::throwing::{choose, falls};
 use alias_table::AliasTable;
 use csr_store::Rows;
 use factor_table::{FactorTable, OneClass, each_class};
-use metapath_walk::{SchemeClasses, wanted};
+use metapath_walk::wanted;
 use std::sync::ledger::Ledger;
 use walk_model::{Plan, State, Steps};
 use walker_stream::StreamReader;
@@ -63,7 +63,11 @@ fn choose_edge<L: Ledger>(
     each_class!((&factors.typed, s.previous) => {
         (TypedFactors::Plain, _) => (&factors.one, OneClass { len: row.len() }),
         (TypedFactors::Node2vec { .. }, None) => (&factors.one, OneClass { len: row.len() }),
-        (TypedFactors::Scheme { kinds, factors }, _) => (factors, SchemeClasses { row, wanted: wanted(kinds, s.phase) }),
+        (TypedFactors::Scheme { kinds, factors }, _) => (factors, TypeClasses {
+            rows,
+            at: s.at,
+            wanted: wanted(kinds, s.phase),
+        }),
         (TypedFactors::Node2vec { factors }, Some(back)) => (factors, NearClasses {
             rows,
             at: s.at,

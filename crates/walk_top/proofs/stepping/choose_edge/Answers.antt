@@ -74,8 +74,9 @@ choose-requires-in-Scheme-default g c =
     let rule : (c.args.plan.now.rule ≡ Scheme c.in-Scheme-default.kinds.now) × (c.in-Scheme-default.factors ≡ 1 ∷ 0 ∷ []) =
     scheme-rule c.args.plan.now.rule c.args.factors.now.typed c.in-Scheme-default.kinds c.in-Scheme-default.factors c.in-Scheme-default.is-0 c.requires.rule.typed in
     let fits : length c.args.table.now * sum c.args.table.now ≤ 2 ^ 62 = fits-one c.args.table.now c.args.plan.now.rule reach (rw (rule.0) (greatest-scheme c.in-Scheme-default.kinds.now)) in
-    let choice : IsChoice 2 c.args.table.now c.in-Scheme-default.factors (map (known_class c.wanted.result) c.row-row.result.now) (type_classes c.wanted.result c.row-row.result.now) None =
-    rw (rule.1) (choice-scheme c.args.table.now c.wanted.result c.row-row.result.now (sym long) fits) in
+    let size : length (map out_edge out) ≡ length c.args.table.now = ap (λ (l : List OutEdge). length l) (sym stored) ∙ sym long in
+    let choice : IsChoice 2 c.args.table.now c.in-Scheme-default.factors (map (known_class c.wanted.result) (map out_edge out)) (type_classes c.wanted.result (map out_edge out)) None =
+    rw (rule.1) (choice-scheme c.args.table.now c.wanted.result (map out_edge out) size fits) in
     (search rules, (choice, (search rules, search rules)))
 
 pub returns-in-Plain-default-clause-edge : goal.returns-in-Plain-default-clause-edge
@@ -135,7 +136,6 @@ pub returns-in-Scheme-default-clause-edge : goal.returns-in-Scheme-default-claus
 returns-in-Scheme-default-clause-edge g c =
     let edges : List Edge = c.args.rows.now.edges in
     let out : List Edge = row edges c.args.s.at in
-    let stored : c.row-row.result.now ≡ map out_edge out = c.row-row.ensures.row in
     let words : ℕ → ℕ = word c.args.reader.now.seed c.args.reader.now.walker in
     let place : ℕ = c.args.reader.now.place in
     let tries : c.plan.inside.retries ≡ c.args.plan.now.retries = ap (λ p. p.retries) c.plan.view_is in
@@ -145,7 +145,6 @@ returns-in-Scheme-default-clause-edge g c =
     scheme-rule c.args.plan.now.rule c.args.factors.now.typed c.in-Scheme-default.kinds c.in-Scheme-default.factors c.in-Scheme-default.is-0 c.requires.rule.typed in
     let w : ℕ = c.wanted.result in
     c.choose-in-Scheme-default.ensures.edge
-    ∙ ap (λ (fs : List ℕ). darts retries (board_by (class_board ws fs (map (known_class w) c.row-row.result.now) None) (type_classes w c.row-row.result.now)) words place) (rule.1)
-    ∙ ap (λ (l : List OutEdge). darts retries (board_by (class_board ws (1 ∷ 0 ∷ []) (map (known_class w) l) None) (type_classes w l)) words place) stored
+    ∙ ap (λ (fs : List ℕ). darts retries (board_by (class_board ws fs (map (known_class w) (map out_edge out)) None) (type_classes w (map out_edge out))) words place) (rule.1)
     ∙ two-scheme retries edges c.args.plan.now c.args.s c.in-Scheme-default.kinds.now w out ws words place (rule.0) c.wanted.ensures c.requires.weights
     ∙ ap (λ n. darts n (board_of edges c.args.plan.now c.args.s out) words place) tries
