@@ -2,9 +2,10 @@
 use Rattle.std.proofs.Common.{◌≡◌, ℕ, suc, ◌-◌, ◌*◌, ◌/◌, ◌%◌, ◌^◌, ◌<◌, ◌≤◌, true, false, List, length, take, get_or, sum, refl, arith, ap, sym, ◌∙◌, inl, inr, subst, All, Some, None}
 use Rattle.std.specs.Prelude.{nat_lt, if◌then◌else◌}
 use Rattle.std.proofs.lemmas.List.Sums.{get_or-le-sum_by}
+use Rattle.std.proofs.Math.Arith.{mod-mul}
 use Rattle.std.proofs.lemmas.Bool.{cases_lt}
 use Rattle.std.proofs.lemmas.Bool.Decides.{nat_tests}
-use Rattle.std.proofs.lemmas.Nat.{rows, mul-le}
+use Rattle.std.proofs.lemmas.Nat.{rows, mul-le, div-mul-add}
 use Rattle.walk_model.specs.Lists.{front_reaching}
 use Rattle.walk_model.specs.Alias.{own, filler, alias, piece, lacks, spares}
 use Rattle.alias_table.specs.Columns.{IsRow}
@@ -38,6 +39,12 @@ own-equal ws v c equal inside =
 -- the column of a place
 pub column-within : (u n whole : ℕ) → u < n * whole → u / whole < n
 column-within u n whole h = grind (arith, rows)
+
+-- the column of a word that is brought down to the places of all columns
+pub column-of-word : (word n whole : ℕ) → 0 < n → 0 < whole → (word % (n * whole)) / whole ≡ word / whole % n
+column-of-word word n whole some more =
+    let small : word % whole < whole = omega arith in
+    rw (mod-mul word {m = n} {c = whole} some more) (div-mul-add (word / whole % n) whole (word % whole) small)
 
 -- the piece at a place of a column
 pub piece-own : (ws : List ℕ) (u part : ℕ) → part ≡ own ws (u / sum ws) → u % sum ws < part → piece ws u ≡ u / sum ws
@@ -169,3 +176,16 @@ pick-either-within ws u whole part other e some inside column =
 
     more : (a b : ℕ) → b ≤ a → nat_lt a b ≡ false
     more a b h = grind (arith, nat_tests)
+
+-- the same, where the column is read at a place
+pub pick-read : {C : Type 0} (part other : C → ℕ) (ws : List ℕ) (columns : List C) (u whole : ℕ) (v : C)
+    → whole ≡ sum ws → IsRow ws → u < length ws * sum ws → AllFilled part other ws columns → v ≡ get_or columns (u / whole) v
+    → ((if nat_lt (u % whole) (part v) then u / whole else other v) ≡ piece ws u)
+    × ((if nat_lt (u % whole) (part v) then u / whole else other v) < length ws)
+pick-read part other ws columns u whole v e row h filled here =
+    let inside = pick-column ws u whole e h in
+    let some = sum-some ws row in
+    let column = column-at part other ws columns (u / whole) v filled inside here in (
+      pick-either ws u whole (part v) (other v) e some column,
+      pick-either-within ws u whole (part v) (other v) e some inside column,
+    )

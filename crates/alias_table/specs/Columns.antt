@@ -3,11 +3,12 @@ use Rattle.std.specs.Prelude.{◌≡◌, ℕ, ◌*◌, ◌/◌, ◌^◌, ◌<◌
 use Rattle.walk_model.specs.Alias.{own}
 use Rattle.alias_table.specs.Filled.{AllFilled, own_part, other_item}
 use Rattle.alias_table.specs.declared.columns.Columns.{Columns}
-use Rattle.alias_table.specs.declared.columns.Columns.TheVariants.{Whole, Narrow, Wide}
+use Rattle.alias_table.specs.declared.columns.Columns.TheVariants.{Whole, Slim, Narrow, Wide}
 
 -- the columns are those of the weights
 abbrev pub AreColumns : List ℕ → Columns → Type 0
 AreColumns ws Whole = (c : ℕ) → c < length ws → own ws c ≡ sum ws
+AreColumns ws (Slim columns) = (length ws * sum ws < 2 ^ 32) × AllFilled (own_part (λ n. n)) other_item ws columns.items
 AreColumns ws (Narrow columns) = (length ws * sum ws < 2 ^ 64) × AllFilled (own_part (λ n. n)) other_item ws columns.items
 AreColumns ws (Wide columns) = AllFilled (own_part (λ n. n)) other_item ws columns.items
 

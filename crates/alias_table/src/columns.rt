@@ -1,4 +1,4 @@
-//! The columns of a row, in three forms.
+//! The columns of a row, in four forms.
 
 /// A column: how much of it its own item has, and the item that has the rest.
 #[derive(Clone, Copy)]
@@ -12,7 +12,9 @@ pub(crate) struct Column<N> {
 pub(crate) enum Columns {
     /// Each item has its own column whole.
     Whole,
-    /// The number of all places fits 64 bits.
+    /// The number of all places fits 32 bits.
+    Slim(Vec<Column<u32>>),
+    /// It fits 64 bits.
     Narrow(Vec<Column<u64>>),
     /// It needs more.
     Wide(Vec<Column<u128>>),

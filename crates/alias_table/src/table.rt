@@ -1,6 +1,6 @@
 //! The table of a row of weights.
 
-ghost use Rattle.std.specs.Prelude.{◌≡◌, ℕ, ◌≤◌, ◌<◌, ◌+◌, ◌*◌, ◌^◌, length, sum, slice_index, IfOk, All};
+ghost use Rattle.std.specs.Prelude.{◌≡◌, ℕ, ◌≤◌, ◌<◌, ◌+◌, ◌*◌, ◌/◌, ◌%◌, ◌^◌, length, sum, slice_index, IfOk, All};
 ghost use Rattle.walk_model.specs.Alias.{own, alias, piece};
 ghost use Rattle.alias_table.specs.Columns.{AreColumns, IsRow};
 ghost use Rattle.alias_table.specs.Filled.{IsColumn};
@@ -51,7 +51,12 @@ fn columns_of(alloc: Global, weights: &[u64], whole: u128) -> Result<Columns, Me
         return Ok(Columns::Whole);
     }
     let count = weights.len() as u64;
-    if whole * u128::from(count) <= 0xffff_ffff_ffff_ffff {
+    let places = whole * u128::from(count);
+    if places <= 0xffff_ffff {
+        let columns = filled_columns(alloc, weights, count as u32, whole as u32)?;
+        return Ok(Columns::Slim(columns));
+    }
+    if places <= 0xffff_ffff_ffff_ffff {
         let columns = filled_columns(alloc, weights, count, whole as u64)?;
         return Ok(Columns::Narrow(columns));
     }
@@ -138,6 +143,13 @@ impl AliasTable {
                 own: self.whole,
                 other: 0,
             },
+            Columns::Slim(columns) => {
+                let slim = columns[column];
+                Column {
+                    own: u128::from(slim.own),
+                    other: slim.other,
+                }
+            }
             Columns::Narrow(columns) => {
                 let here = columns[column];
                 Column {
@@ -147,6 +159,21 @@ impl AliasTable {
             }
             Columns::Wide(columns) => columns[column],
         }
+    }
+
+    /// The column that a dart with this word reads on a board of height 1 without a strip, where the
+    /// word doesn't miss. It reads no column itself: for callers that bring one near before a pick.
+    #[inline]
+    pub fn column_for(&self, word: u64) -> usize
+        ensures value { result ≡ (word / sum self.now) % length self.now }
+        ensures column { result ≡ (word % (length self.now * sum self.now)) / sum self.now }
+        ensures within { result < length self.now }
+    {
+        if self.whole > 0xffff_ffff_ffff_ffff {
+            return 0;
+        }
+        let part = divide(word, self.whole as u64, self.inverse);
+        (part.0 % self.row.len() as u64) as usize
     }
 
     /// The item at a place of all columns: the column's own where its own part reaches the place,
@@ -177,6 +204,12 @@ impl AliasTable {
                     return part.0 as usize;
                 }
                 (place / self.whole) as usize
+            }
+            Columns::Slim(columns) => {
+                let part = divide(place as u64, self.whole as u64, self.inverse);
+                let column = part.0 as usize;
+                let here = columns[column];
+                choose(part.1 < u64::from(here.own), column, here.other as usize)
             }
             Columns::Narrow(columns) => {
                 let part = divide(place as u64, self.whole as u64, self.inverse);

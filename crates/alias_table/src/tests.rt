@@ -52,6 +52,9 @@ fn tally<L: Ledger>(table: &AliasTable, first: u64, blank: Blank) -> [u64; 3]
 fn small_rows(rt: HostRuntime) -> Result<(), Fail> {
     let table = expect_columns(&rt, &[5, 4, 1], &[8, 10, 3], &[Some(1), None, Some(0)])?;
     assert_eq!(rt; tally::<Brand>(&table, 0, Blank::new(1)), [15, 12, 3]);
+    assert_eq!(rt; table.column_for(29), 2);
+    assert_eq!(rt; table.column_for(37), 0);
+    assert_eq!(rt; table.column_for(18446744073709551615), 1);
     let table = expect_columns(&rt, &[2, 2, 2], &[6, 6, 6], &[None, None, None])?;
     assert_eq!(rt; tally::<Brand>(&table, 0, Blank::new(1)), [6, 6, 6]);
     expect_columns(&rt, &[1, 2, 3], &[3, 6, 6], &[Some(2), None, None])?;
@@ -67,6 +70,23 @@ fn small_rows(rt: HostRuntime) -> Result<(), Fail> {
         &[8, 4, 8, 4],
         &[None, Some(0), None, Some(2)],
     )?;
+    Ok(())
+}
+
+/// The places of the first row just fit 32 bits, those of the second one just don't.
+#[test]
+fn rows_about_32_bits(rt: HostRuntime) -> Result<(), Fail> {
+    let table = expect_columns(
+        &rt,
+        &[1431655763, 1, 1],
+        &[1431655765, 3, 3],
+        &[None, Some(0), Some(0)],
+    )?;
+    let counts = tally::<Brand>(&table, 1431655755, Blank::new(1));
+    assert_eq!(rt; counts, [27, 3, 0]);
+    let table = expect_columns(&rt, &[2147483647, 1], &[2147483648, 2], &[None, Some(0)])?;
+    let counts = tally::<Brand>(&table, 2147483638, Blank::new(1));
+    assert_eq!(rt; counts, [28, 2, 0]);
     Ok(())
 }
 

@@ -1,4 +1,4 @@
-//! The two widths in which the places of a row are counted.
+//! The three widths in which the places of a row are counted.
 
 ghost use Rattle.std.specs.Prelude.{◌≡◌, ℕ, ◌≤◌, ◌<◌, ◌-◌, ◌*◌, ◌^◌, ◌↔◌, IsTrue};
 
@@ -26,6 +26,35 @@ pub(crate) trait Width: Copy {
         ensures { IsTrue result ↔ (value other < value self) };
 
     ghost clones_are_equal: { (x y : Self) → Self.is_clone x y → y ≡ x };
+}
+
+impl Width for u32 {
+    ghost value = { λ n. n };
+
+    ghost bound = { 2 ^ 32 };
+
+    #[inline]
+    fn zero() -> u32 {
+        0
+    }
+
+    #[inline]
+    fn times(self, weight: u64) -> u32 {
+        // the weight alone may need more than the product
+        (u64::from(self) * weight) as u32
+    }
+
+    #[inline]
+    fn minus(self, other: u32) -> u32 {
+        self - other
+    }
+
+    #[inline]
+    fn exceeds(self, other: u32) -> bool {
+        self > other
+    }
+
+    ghost clones_are_equal = { λ x y same. same };
 }
 
 impl Width for u64 {

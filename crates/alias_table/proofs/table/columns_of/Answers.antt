@@ -6,8 +6,8 @@ pub returns-then-all_are : goal.returns-then-all_are
 returns-then-all_are c =
     λ k inside. own-equal c.args.weights.now _ k (c.all_are.ensures.0 c.if-all_are.true) inside
 
-pub overflow_mul-whole : goal.overflow_mul-whole
-overflow_mul-whole c =
+pub overflow_mul-places : goal.overflow_mul-places
+overflow_mul-places c =
     let bound = places-within c.args.weights.now c.requires.row in
     rw (c.requires.whole, c.from.ensures) (omega (arith, bound))
 
