@@ -21,11 +21,12 @@ use walk_model::{Memory, Steps};
 /// picked by n times its weight.
 #[derive(Drop)]
 pub struct AliasTable {
-    columns: Columns,
+    // what a pick reads stands first, in one cache line or two
     whole: u128,
     // what places are divided by the sum with, where that fits 64 bits
     inverse: u64,
-    // read by none of the picks
+    columns: Columns,
+    // of this a pick reads no more than the length
     row: Vec<u64>,
 }
 
@@ -80,9 +81,9 @@ impl AliasTable {
         let row = weights.to_vec(alloc)?;
         let columns = columns_of(alloc, weights, whole)?;
         Ok(AliasTable {
-            columns,
             whole,
             inverse,
+            columns,
             row,
         })
     }

@@ -48,6 +48,12 @@ abbrev pub decided_walk : RowGraph → Settings → Tour → List ℕ
 decided_walk g plan t =
     t.path.items ++ entries_from t.left (way_of g plan t) (led_to g.edges t.start t.state t.decision t.reader.place)
 
+-- a walker looks ahead: nothing of its walk changes
+pub record Looks (g : RowGraph) (old new : Tour) : Type 0 where
+  pub on_way : IsOnWay g.vertices new
+  pub left : new.left ≡ old.left
+  pub walk : (plan : Settings) → whole_walk g plan new ≡ whole_walk g plan old
+
 -- a walker decides its step
 pub record Decides (g : RowGraph) (plan : Settings) (old new : Tour) : Type 0 where
   pub decided : IsDecided g new

@@ -8,7 +8,7 @@ ghost use Rattle.walk_model.specs.Walk.{walk};
 ghost use Rattle.walk_model.specs.Fits.{reach_of};
 ghost use Rattle.walk_model.specs.Lists.{item_lists};
 ghost use Rattle.walk_model.specs.Settings.{Settings};
-ghost use Rattle.walk_top.specs.Underway.{IsOnWay, IsDecided, Decides, Goes, EachBecomes, whole_walk, decided_walk};
+ghost use Rattle.walk_top.specs.Underway.{IsOnWay, IsDecided, Looks, Decides, Goes, EachBecomes, whole_walk, decided_walk};
 
 use crate::grounds::Ground;
 use crate::ruling::RuleFactors;
@@ -16,7 +16,7 @@ use crate::stepping::{Decision, decide, state_after};
 use csr_store::Rows;
 use std::alloc::Global;
 use std::sync::ledger::Ledger;
-use walk_model::{Memory, Plan, State, Steps};
+use walk_model::{Memory, Plan, Rule, State, Steps};
 use walker_stream::StreamReader;
 
 /// A walker on its way.
@@ -25,6 +25,9 @@ pub(crate) struct Tour {
     start: u32,
     reader: StreamReader,
     state: State,
+    // the column that the next dart may read, and what was read ahead: no step depends on either
+    column: usize,
+    read: u128,
     // what the step decided that the walker is in
     decision: Decision,
     // how many steps it may still take, which is none at the end of its walk
@@ -61,10 +64,50 @@ impl Tour {
             start,
             reader,
             state,
+            column: 0,
+            read: 0,
             decision: Decision::End,
             left: length,
             path,
         })
+    }
+
+    /// Reads the record of the table of the row where the walker stands: its first field and its last, so
+    /// that all of it is at hand.
+    fn arrive(&mut self, ground: &Ground)
+        requires on_way { IsOnWay ground.now.rows.vertices self.old }
+        ensures { self.new ≡ record self.old { column = self.new.column; read = self.new.read } }
+    {
+        if let Some(table) = ground.table(self.state.at) {
+            self.read = table.sum();
+            self.column = table.len();
+        }
+    }
+
+    /// Finds the column that the first dart of the step reads, where the step begins with a dart, the board
+    /// has the height 1 and the word doesn't miss.
+    fn aim(&mut self, ground: &Ground)
+        requires on_way { IsOnWay ground.now.rows.vertices self.old }
+        ensures { self.new ≡ record self.old { column = self.new.column } }
+    {
+        if self.left == 0 {
+            return;
+        }
+        if let Some(table) = ground.table(self.state.at) {
+            self.column = table.column_for(self.reader.peek());
+        }
+    }
+
+    /// Reads that column, so that it is at hand when the dart comes to it.
+    fn read_ahead(&mut self, ground: &Ground)
+        requires on_way { IsOnWay ground.now.rows.vertices self.old }
+        ensures { self.new ≡ record self.old { read = self.new.read } }
+    {
+        if let Some(table) = ground.table(self.state.at) {
+            if self.column < table.len() {
+                self.read = table.own(self.column);
+            }
+        }
     }
 
     /// Decides a step, where the walk goes on.
@@ -117,6 +160,36 @@ impl Tour {
     }
 }
 
+/// Each walker reads the record of its table. Nothing here waits for another walker's record.
+fn arrive_each(tours: &mut [Tour], ground: &Ground)
+    requires { All (IsOnWay ground.now.rows.vertices) tours.old }
+    ensures { EachBecomes (Looks ground.now.rows) tours.old tours.new }
+{
+    for tour in tours.iter_mut() {
+        tour.arrive(ground);
+    }
+}
+
+/// Each walker finds the column that it may read next.
+fn aim_each(tours: &mut [Tour], ground: &Ground)
+    requires { All (IsOnWay ground.now.rows.vertices) tours.old }
+    ensures { EachBecomes (Looks ground.now.rows) tours.old tours.new }
+{
+    for tour in tours.iter_mut() {
+        tour.aim(ground);
+    }
+}
+
+/// Each walker reads that column. Nothing here waits for another walker's column.
+fn read_ahead_each(tours: &mut [Tour], ground: &Ground)
+    requires { All (IsOnWay ground.now.rows.vertices) tours.old }
+    ensures { EachBecomes (Looks ground.now.rows) tours.old tours.new }
+{
+    for tour in tours.iter_mut() {
+        tour.read_ahead(ground);
+    }
+}
+
 /// Each walker decides a step.
 fn decide_each<L: Ledger>(
     tours: &mut [Tour],
@@ -147,6 +220,23 @@ fn go_each(tours: &mut [Tour], rows: &Rows) -> Result<(), Memory>
     Ok(())
 }
 
+/// The walkers look ahead at what their steps will wait for: their tables and, by weight, where each row has
+/// columns of its own, the columns of their first darts. A step begins with a dart where there are no coins;
+/// by p and q the board is a higher one.
+fn look_ahead(tours: &mut [Tour], ground: &Ground, plan: &Plan)
+    requires { All (IsOnWay ground.now.rows.vertices) tours.old }
+    ensures { EachBecomes (Looks ground.now.rows) tours.old tours.new }
+{
+    let coins = plan.stop.top > 0 || plan.restart.top > 0;
+    let higher = matches!(plan.rule, Rule::Node2vec { .. });
+    let darts_first = ground.weighted && !coins && !higher;
+    arrive_each(tours, ground);
+    if darts_first {
+        aim_each(tours, ground);
+        read_ahead_each(tours, ground);
+    }
+}
+
 /// Walks all walkers to the ends of their walks, a step of each in turn.
 pub(crate) fn walk_to_ends<L: Ledger>(
     tours: &mut [Tour],
@@ -163,6 +253,7 @@ pub(crate) fn walk_to_ends<L: Ledger>(
     ensures walks { IfOk result (λ _. map (λ t. t.path.items) tours.new ≡ map (whole_walk ground.now.rows plan.now) tours.old) }
 {
     for _ in 0..plan.length {
+        look_ahead(tours, ground, plan);
         decide_each(tours, ground, plan, factors, steps);
         go_each(tours, &ground.rows)?;
     }

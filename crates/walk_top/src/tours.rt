@@ -44,7 +44,7 @@ pub(crate) fn walkers_of(rule: StartRule, vertices: u32) -> u32
 }
 
 /// How many walkers are on their way at a time.
-const AT_A_TIME: u32 = 8;
+const AT_A_TIME: u32 = 16;
 
 /// The walkers from one number up to another, at their starts.
 fn walkers_at_start(

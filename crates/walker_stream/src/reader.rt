@@ -153,6 +153,21 @@ impl StreamReader {
         word
     }
 
+    /// The next word, which stays the next one.
+    #[inline]
+    pub fn peek(&mut self) -> u64
+        requires { self.old.place < u64.MAX }
+        ensures word { result ≡ word self.old.seed self.old.walker self.old.place }
+        ensures stays { self.new ≡ self.old }
+    {
+        if self.index >= HELD {
+            self.first += self.index as u64;
+            self.index = 0;
+            refill(&mut self.generator, &mut self.words);
+        }
+        self.words[self.index]
+    }
+
     /// Moves to a place of a walker's stream, with a refill only where it doesn't hold that word.
     #[inline]
     pub fn seek(&mut self, walker: u64, place: u64)

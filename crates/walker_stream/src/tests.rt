@@ -30,6 +30,7 @@ fn a_reader_goes_along(rt: HostRuntime) -> Result<(), Fail> {
         let stands = reader.place();
         assert_eq!(rt; stands, place);
         if stands < 70 {
+            assert_eq!(rt; reader.peek(), streams.word(5, place));
             assert_eq!(rt; reader.next(), streams.word(5, place));
         }
     }

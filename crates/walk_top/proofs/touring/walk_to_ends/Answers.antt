@@ -6,6 +6,7 @@ use Rattle.walk_top.proofs.touring.walk_to_ends.Goals as goal
 
 pub loop-preserved : goal.loop-preserved
 loop-preserved g c =
+    let looked = c.look_ahead.ensures in
     let decided = c.decide_each.ensures in
     let gone = c.in_ok-go_each.ensures in
     let whole = whole_walk c.args.ground.now.rows c.args.plan.now in
@@ -13,10 +14,12 @@ loop-preserved g c =
     record {
       on_way = λ k d low. (gone.1 k d (omega (arith, low, gone.0))).on_way;
       left = λ k d low.
-          let there : k < length c.loop.tours = omega (arith, low, gone.0, decided.0) in
-          omega (arith, (gone.1 k d (omega (arith, low, gone.0))).left, (decided.1 k d there).left, c.loop.invariant.left k d there);
+          let seen : k < length c.look_ahead.new.tours = omega (arith, low, gone.0, decided.0) in
+          let there : k < length c.loop.tours = omega (arith, seen, looked.0) in
+          omega (arith, (gone.1 k d (omega (arith, low, gone.0))).left, (decided.1 k d seen).left, (looked.1 k d there).left, c.loop.invariant.left k d there);
       walks = map-each whole middle c.decide_each.new.tours c.go_each.new.tours gone.0 (λ k d low. (gone.1 k d low).walk c.args.plan.now)
-          ∙ map-each middle whole c.loop.tours c.decide_each.new.tours decided.0 (λ k d low. (decided.1 k d low).walk)
+          ∙ map-each middle whole c.look_ahead.new.tours c.decide_each.new.tours decided.0 (λ k d low. (decided.1 k d low).walk)
+          ∙ map-each whole whole c.loop.tours c.look_ahead.new.tours looked.0 (λ k d low. (looked.1 k d low).walk c.args.plan.now)
           ∙ c.loop.invariant.walks;
     }
 
