@@ -1,17 +1,16 @@
 -- Lists of edges with the same rows: a walk on one is the walk on the other.
-use Rattle.std.proofs.Common.{◌≡◌, ℕ, zero, suc, Bool, List, [], ◌∷◌, map, refl, ap, Some, None, Option}
-use Rattle.std.specs.Prelude.{◌==◌, if◌then◌else◌, length, option_and_then}
+use Rattle.std.proofs.Common.{◌≡◌, ℕ, zero, suc, List, [], ◌∷◌, map, refl, ap, Some, None, Option}
 use Rattle.walk_model.specs.declared.graph.Edge.{Edge}
 use Rattle.walk_model.specs.declared.programme.Rule.{Rule}
 use Rattle.walk_model.specs.declared.programme.Rule.TheVariants.{Plain, Scheme, Node2vec}
 use Rattle.walk_model.specs.declared.states.State.{State}
 use Rattle.walk_model.specs.Settings.{Settings}
-use Rattle.walk_model.specs.Course.{Course, course}
+use Rattle.walk_model.specs.Course.{course}
 use Rattle.walk_model.specs.Graph.{row, has_edge}
 use Rattle.walk_model.specs.Factor.{factor, node_factor}
-use Rattle.walk_model.specs.Dart.{board_of, darts}
+use Rattle.walk_model.specs.Dart.{board_of}
 use Rattle.walk_model.specs.Words.{coin}
-use Rattle.walk_model.specs.Walk.{restarted, moved_along, chosen, next_state, entry_and, entries_after, walk, first_state}
+use Rattle.walk_model.specs.Walk.{chosen, next_state, entry_and, entries_after, walk, first_state}
 
 -- two lists of edges have the same rows, and the same edges are there
 pub record SameRows (es fs : List Edge) : Type 0 where
