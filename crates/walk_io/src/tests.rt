@@ -1,5 +1,7 @@
 use super::*;
 use std::fs;
+use std::io::{BufWriter, Write, pipe};
+use std::os::fd::AsRawFd;
 use std::test::Fail;
 
 /// What a read of at most eight bytes gives.
@@ -28,6 +30,36 @@ fn real_files_are_read(rt: HostRuntime) -> Result<(), Fail> {
     assert_eq!(rt; piece_of(&mut files, "-", 4), Ok((0, [0; 8])));
     fs::remove_file(&rt, name)?;
     assert_eq!(rt; piece_of(&mut files, name, 0), Err(Failed));
+    Ok(())
+}
+
+#[test]
+fn a_pipe_with_a_name_is_read_in_order(rt: HostRuntime) -> Result<(), Fail> {
+    let alloc = rt.alloc();
+    let (reader, mut writer) = pipe(&rt)?;
+    writer.write(b"0 1\n1 2\n2 0\n")?;
+    let name = format!(in alloc; "/dev/fd/{}", reader.as_raw_fd())?;
+    let mut files = RealFiles::new(&rt, b"".as_slice());
+    // bytes as from a file: it is opened once, and each read goes on behind the one before
+    assert_eq!(rt; piece_of(&mut files, &name, 0), Ok((8, *b"0 1\n1 2\n")));
+    assert_eq!(rt; piece_of(&mut files, &name, 4), Err(Failed));
+    assert_eq!(rt; piece_of(&mut files, &name, 8), Ok((4, *b"2 0\n\0\0\0\0")));
+    drop(writer);
+    assert_eq!(rt; piece_of(&mut files, &name, 12), Ok((0, [0; 8])));
+    Ok(())
+}
+
+#[test]
+fn a_write_is_flushed(rt: HostRuntime) -> Result<(), Fail> {
+    let name = "walk_io_flushed.txt";
+    let writer = BufWriter::new(rt.alloc(), fs::create(&rt, name)?)?;
+    let mut sink = RealSink::new(writer);
+    // the bytes have left the writer's buffer when the call says so
+    assert_eq!(rt; sink.write(b"0 1\n"), Ok(4));
+    assert_eq!(rt; fs::read_to_string(&rt, name)?.as_str(), "0 1\n");
+    assert_eq!(rt; sink.write(b"1 2\n"), Ok(4));
+    assert_eq!(rt; fs::read_to_string(&rt, name)?.as_str(), "0 1\n1 2\n");
+    fs::remove_file(&rt, name)?;
     Ok(())
 }
 
