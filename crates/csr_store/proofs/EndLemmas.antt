@@ -1,12 +1,12 @@
 -- The ends and the types of stored rows are those of the rows.
-use Rattle.std.proofs.Common.{◌≡◌, ℕ, ◌+◌, ◌-◌, ◌<◌, List, length, map, get_or, take, drop, arith, ap, ◌∙◌}
+use Rattle.std.proofs.Common.{◌≡◌, ℕ, ◌+◌, ◌-◌, ◌<◌, List, length, map, take, drop, ap, ◌∙◌}
 use Rattle.std.specs.Prelude.{slice_index, All}
-use Rattle.std.proofs.lemmas.List.{drop-map, take-map, length-map, get_or_default}
+use Rattle.std.proofs.lemmas.List.{drop-map, take-map, length-map}
 use Rattle.std.proofs.lemmas.List.Elements.{All-map, All-same}
 use Rattle.walk_model.specs.declared.graph.Edge.{Edge}
 use Rattle.walk_model.specs.Graph.{row, ends_of}
 use Rattle.csr_store.specs.declared.out_edge.OutEdge.{OutEdge}
-use Rattle.csr_store.specs.declared.rows.Rows.TheInside.{Inside}
+use Rattle.csr_store.specs.declared.ranges.RowRange.TheInside.{Inside}
 use Rattle.csr_store.specs.OutEdges.{out_edge, kinds_of}
 use Rattle.csr_store.specs.Shelves.{stored_row}
 use Rattle.csr_store.specs.Stored.{graph_of, IsStored}
@@ -23,42 +23,39 @@ unfolding ends_of
 length-ends_of out = length-map out (λ (e : Edge). e.dst)
 
 -- what a list has of each edge is, between the places of a row, what it has of the row's stored edges
-kept-between : (a : Inside) → IsStored a → (f : OutEdge → ℕ) (v from to : ℕ) (kept : List ℕ) → v < a.vertices
-    → from ≡ get_or a.starts.items v from → to ≡ get_or a.starts.items (v + 1) to → kept ≡ map f a.out.items
-    → take (to - from) (drop from kept) ≡ map f (stored_row a.starts.items a.out.items v)
-kept-between a s f v from to kept inside first last is =
-    let long = s.starts in
-    let low : ℕ = slice_index a.starts.items v in
-    let high : ℕ = slice_index a.starts.items (v + 1) in
-    let from_is : from ≡ low = first ∙ get_or_default a.starts.items v from 0 (omega arith) in
-    let to_is : to ≡ high = last ∙ get_or_default a.starts.items (v + 1) to 0 (omega arith) in
-    ap (λ n. take (to - n) (drop n kept)) from_is ∙ ap (λ n. take (n - low) (drop low kept)) to_is
+kept-between : (a : Inside) (f : OutEdge → ℕ) (v from to : ℕ) (kept : List ℕ)
+    → from ≡ slice_index a.heads.starts v → to ≡ slice_index a.heads.starts (v + 1) → kept ≡ map f a.out.items
+    → take (to - from) (drop from kept) ≡ map f (stored_row a.heads.starts a.out.items v)
+kept-between a f v from to kept first last is =
+    let low : ℕ = slice_index a.heads.starts v in
+    let high : ℕ = slice_index a.heads.starts (v + 1) in
+    ap (λ n. take (to - n) (drop n kept)) first ∙ ap (λ n. take (n - low) (drop low kept)) last
     ∙ ap (λ l. take (high - low) (drop low l)) is
     ∙ ap (take (high - low)) (drop-map f low a.out.items)
     ∙ take-map f (high - low) (drop low a.out.items)
 
--- so the ends there are those of the row
-pub ends-stored : (a : Inside) → IsStored a → (v from to : ℕ) (ends : List ℕ) → v < a.vertices
-    → from ≡ get_or a.starts.items v from → to ≡ get_or a.starts.items (v + 1) to → ends ≡ a.ends.items
-    → take (to - from) (drop from ends) ≡ ends_of (row (graph_of a).edges v)
-ends-stored a s v from to ends inside first last is =
-    kept-between a s (λ (e : OutEdge). e.dst) v from to ends inside first last (is ∙ s.ends)
-    ∙ ap (map (λ (e : OutEdge). e.dst)) (s.rows v inside) ∙ ends-kept (row (graph_of a).edges v)
+-- so the destinations there are those of the row
+pub ends-stored : (a : Inside) → IsStored a → (v from to : ℕ) (dsts : List ℕ) → v < a.count
+    → from ≡ slice_index a.heads.starts v → to ≡ slice_index a.heads.starts (v + 1) → dsts ≡ a.dsts.items
+    → take (to - from) (drop from dsts) ≡ ends_of (row (graph_of a).edges (a.first + v))
+ends-stored a s v from to dsts inside first last is =
+    kept-between a (λ (e : OutEdge). e.dst) v from to dsts first last (is ∙ s.dsts)
+    ∙ ap (map (λ (e : OutEdge). e.dst)) (s.rows v inside) ∙ ends-kept (row (graph_of a).edges (a.first + v))
 
 -- and they are vertices
-pub ends-vertices : (a : Inside) → IsStored a → (v from to : ℕ) (ends : List ℕ) → v < a.vertices
-    → from ≡ get_or a.starts.items v from → to ≡ get_or a.starts.items (v + 1) to → ends ≡ a.ends.items
-    → All (λ t. t < a.vertices) (take (to - from) (drop from ends))
-ends-vertices a s v from to ends inside first last is =
+pub ends-vertices : (a : Inside) → IsStored a → (v from to : ℕ) (dsts : List ℕ) → v < a.count
+    → from ≡ slice_index a.heads.starts v → to ≡ slice_index a.heads.starts (v + 1) → dsts ≡ a.dsts.items
+    → All (λ t. t < a.vertices) (take (to - from) (drop from dsts))
+ends-vertices a s v from to dsts inside first last is =
     let edges = s.edges v inside in
-    All-same (λ t. t < a.vertices) _ _ (kept-between a s (λ (e : OutEdge). e.dst) v from to ends inside first last (is ∙ s.ends))
-    (All-map (λ t. t < a.vertices) (λ (e : OutEdge). e.dst) (stored_row a.starts.items a.out.items v) (λ k d h. (edges k d h).2))
+    All-same (λ t. t < a.vertices) _ _ (kept-between a (λ (e : OutEdge). e.dst) v from to dsts first last (is ∙ s.dsts))
+    (All-map (λ t. t < a.vertices) (λ (e : OutEdge). e.dst) (stored_row a.heads.starts a.out.items v) (λ k d h. (edges k d h).2))
 
 -- and the types there are those of the row
-pub kinds-stored : (a : Inside) → IsStored a → (v from to : ℕ) (kinds : List ℕ) → v < a.vertices
-    → from ≡ get_or a.starts.items v from → to ≡ get_or a.starts.items (v + 1) to → kinds ≡ a.kinds.items
-    → take (to - from) (drop from kinds) ≡ kinds_of (row (graph_of a).edges v)
+pub kinds-stored : (a : Inside) → IsStored a → (v from to : ℕ) (kinds : List ℕ) → v < a.count
+    → from ≡ slice_index a.heads.starts v → to ≡ slice_index a.heads.starts (v + 1) → kinds ≡ a.kinds.items
+    → take (to - from) (drop from kinds) ≡ kinds_of (row (graph_of a).edges (a.first + v))
 kinds-stored a s v from to kinds inside first last is =
-    kept-between a s (λ (e : OutEdge). e.kind) v from to kinds inside first last (is ∙ s.kinds)
+    kept-between a (λ (e : OutEdge). e.kind) v from to kinds first last (is ∙ s.kinds)
     ∙ ap (map (λ (e : OutEdge). e.kind)) (s.rows v inside)
-    ∙ map-map (λ (e : OutEdge). e.kind) out_edge (row (graph_of a).edges v)
+    ∙ map-map (λ (e : OutEdge). e.kind) out_edge (row (graph_of a).edges (a.first + v))

@@ -5,3 +5,5 @@ pub mod SearchLemmas
 pub mod FillLemmas
 pub mod StoreLemmas
 pub mod EndLemmas
+pub mod CopyLemmas
+pub mod HeadLemmas

@@ -1,9 +1,10 @@
 -- Rows put one after another are a graph with the same rows.
-use Rattle.std.proofs.Common.{◌≡◌, ℕ, zero, suc, ◌+◌, ◌<◌, ◌≤◌, Bool, true, false, cond, List, [], ◌∷◌, ◌++◌, length, map, take, drop, refl, arith, ap, sym, ◌∙◌, ◌||◌, ◌&&◌, not, append-nil}
-use Rattle.std.specs.Prelude.{filter, insert, count_by, ◌==◌, nat_lt, if◌then◌else◌, All}
+use Rattle.std.proofs.Common.{◌≡◌, ℕ, zero, suc, ◌+◌, ◌<◌, ◌≤◌, Bool, true, false, cond, List, [], ◌∷◌, ◌++◌, ◌-◌, ◌⊎◌, inl, inr, length, map, take, drop, refl, arith, ap, sym, ◌∙◌, ◌||◌, ◌&&◌, not, append-nil}
+use Rattle.std.specs.Prelude.{filter, insert, count_by, ◌==◌, nat_lt, if◌then◌else◌, slice_index, All}
 use Rattle.std.specs.List.{list_any}
+use Rattle.std.proofs.lemmas.Bool.{cases_lt}
 use Rattle.std.proofs.lemmas.Bool.Decides.{nat_tests}
-use Rattle.std.proofs.lemmas.List.{length-append}
+use Rattle.std.proofs.lemmas.List.{length-append, length-map, length-drop, length-take-le}
 use Rattle.std.proofs.lemmas.List.Edits.{length-insert}
 use Rattle.std.proofs.lemmas.List.Elements.{All-nil, All-cons, All-head, All-tail, All-append, All-take, All-drop, filter-append}
 use Rattle.std.proofs.lemmas.List.Sums.{count_by-le-length}
@@ -72,36 +73,51 @@ row-row es v =
     sym (row_is (row es v) v (row es v) (row-sorted es v)
     (λ z. ap (filter (λ x. not (comes_before z x) && not (comes_before x z))) (sym (filter-all v (row es v) (AllLeave-row es v)))))
 
--- the rows of the first vertices, one after another
-unfoldable pub rows_below : List Edge → ℕ → List Edge
-rows_below es zero = []
-rows_below es (suc n) = rows_below es n ++ row es n
+-- the rows of some vertices from one on, one after another
+unfoldable pub rows_from : List Edge → ℕ → ℕ → List Edge
+rows_from es first zero = []
+rows_from es first (suc n) = rows_from es first n ++ row es (first + n)
 
--- of the first rows, the edges from a vertex are its row, if that is among them
-filter-rows_below : (es : List Edge) (n v : ℕ)
-    → filter (λ e. e.src == v) (rows_below es n) ≡ (if nat_lt v n then row es v else [])
-unfolding rows_below
-filter-rows_below es zero v =
-    let none : nat_lt v 0 ≡ false = grind (arith, nat_tests) in rw none refl
-filter-rows_below es (suc n) v =
-    let split = filter-append (λ (e : Edge). e.src == v) (rows_below es n) (row es n) in
-    rw (split, filter-rows_below es n v)
-    (let cases : (b : Bool) → (n == v) ≡ b
-    → (if nat_lt v n then row es v else []) ++ filter (λ e. e.src == v) (row es n)
-    ≡ (if nat_lt v (suc n) then row es v else []) = λ b.
-    elim b as (λ b. (n == v) ≡ b
-    → (if nat_lt v n then row es v else []) ++ filter (λ e. e.src == v) (row es n)
-    ≡ (if nat_lt v (suc n) then row es v else [])) [
-      | true ↦ λ h.
-          let same : n ≡ v = grind (arith, nat_tests) in
-          let below : nat_lt v n ≡ false = grind (arith, nat_tests) in
-          let more : nat_lt v (suc n) ≡ true = grind (arith, nat_tests) in
-          rw (below, more) (rw same (filter-all v (row es v) (AllLeave-row es v)))
-      | false ↦ λ h.
-          let more : nat_lt v (suc n) ≡ nat_lt v n = grind (arith, nat_tests) in
-          rw (filter-none v n (row es n) h (AllLeave-row es n), more) (append-nil _)
+-- of these rows no edge leaves a vertex that isn't among them
+filter-rows_out : (es : List Edge) (first n v : ℕ) → (v < first) ⊎ (first + n ≤ v)
+    → filter (λ e. e.src == v) (rows_from es first n) ≡ []
+unfolding rows_from
+filter-rows_out es first zero v out = refl
+filter-rows_out es first (suc n) v out =
+    let other : (first + n == v) ≡ false = elim out [
+      | inl low ↦ grind (arith, nat_tests)
+      | inr past ↦ grind (arith, nat_tests)
     ] in
-    cases (n == v) refl)
+    let before : (v < first) ⊎ (first + n ≤ v) = elim out [
+      | inl low ↦ inl low
+      | inr past ↦ inr (omega (arith, past))
+    ] in
+    filter-append (λ (e : Edge). e.src == v) (rows_from es first n) (row es (first + n))
+    ∙ ap (λ l. l ++ filter (λ e. e.src == v) (row es (first + n))) (filter-rows_out es first n v before)
+    ∙ filter-none v (first + n) (row es (first + n)) other (AllLeave-row es (first + n))
+
+-- and those from one among them are its row
+filter-rows_in : (es : List Edge) (first n v : ℕ) → first ≤ v → v < first + n
+    → filter (λ e. e.src == v) (rows_from es first n) ≡ row es v
+unfolding rows_from
+filter-rows_in es first zero v low high = absurd (omega (arith, low, high))
+filter-rows_in es first (suc n) v low high =
+    let split = filter-append (λ (e : Edge). e.src == v) (rows_from es first n) (row es (first + n)) in
+    let cases : (b : Bool) → (first + n == v) ≡ b
+    → filter (λ e. e.src == v) (rows_from es first n) ++ filter (λ e. e.src == v) (row es (first + n)) ≡ row es v = λ b.
+    elim b as (λ b. (first + n == v) ≡ b
+    → filter (λ e. e.src == v) (rows_from es first n) ++ filter (λ e. e.src == v) (row es (first + n)) ≡ row es v) [
+      | true ↦ λ h.
+          let same : first + n ≡ v = grind (arith, nat_tests) in
+          ap (λ l. l ++ filter (λ e. e.src == v) (row es (first + n))) (filter-rows_out es first n v (inr (omega (arith, same))))
+          ∙ ap (λ w. filter (λ e. e.src == v) (row es w)) same
+          ∙ filter-all v (row es v) (AllLeave-row es v)
+      | false ↦ λ h.
+          let below : v < first + n = grind (arith, nat_tests) in
+          ap (λ l. filter (λ e. e.src == v) (rows_from es first n) ++ l) (filter-none v (first + n) (row es (first + n)) h (AllLeave-row es (first + n)))
+          ∙ append-nil _ ∙ filter-rows_in es first n v low below
+    ] in
+    split ∙ cases (first + n == v) refl
 
 -- a vertex from which no edge leaves has no row
 row-none : (es : List Edge) (n v : ℕ) → All (λ e. e.src < n) es → n ≤ v → row es v ≡ []
@@ -118,18 +134,21 @@ unfolding row
 row-nil v = refl
 
 -- rows put one after another have the rows of the graph
-pub row-rows_below : (es : List Edge) (n v : ℕ) → All (λ e. e.src < n) es → row (rows_below es n) v ≡ row es v
-row-rows_below es n v all =
-    let kept = filter-rows_below es n v in
-    let cases : (b : Bool) → nat_lt v n ≡ b → row (rows_below es n) v ≡ row es v = λ b.
-    elim b as (λ b. nat_lt v n ≡ b → row (rows_below es n) v ≡ row es v) [
-      | true ↦ λ h.
-          sym (row-filter (rows_below es n) v) ∙ ap (λ l. row l v) (rw h at kept) ∙ row-row es v
-      | false ↦ λ h.
-          let past : n ≤ v = grind (arith, nat_tests) in
-          sym (row-filter (rows_below es n) v) ∙ ap (λ l. row l v) (rw h at kept) ∙ row-nil v ∙ sym (row-none es n v all past)
-    ] in
-    cases (nat_lt v n) refl
+pub row-rows_in : (es : List Edge) (first n v : ℕ) → first ≤ v → v < first + n → row (rows_from es first n) v ≡ row es v
+row-rows_in es first n v low high =
+    sym (row-filter (rows_from es first n) v) ∙ ap (λ l. row l v) (filter-rows_in es first n v low high) ∙ row-row es v
+
+pub row-rows_out : (es : List Edge) (first n v : ℕ) → (v < first) ⊎ (first + n ≤ v) → row (rows_from es first n) v ≡ []
+row-rows_out es first n v out =
+    sym (row-filter (rows_from es first n) v) ∙ ap (λ l. row l v) (filter-rows_out es first n v out) ∙ row-nil v
+
+-- all rows together have the rows of the graph
+pub row-rows_all : (es : List Edge) (n v : ℕ) → All (λ e. e.src < n) es → row (rows_from es 0 n) v ≡ row es v
+row-rows_all es n v all =
+    elim (cases_lt v n) [
+      | inl low ↦ row-rows_in es 0 n v (omega arith) (omega (arith, low))
+      | inr past ↦ row-rows_out es 0 n v (inr (omega (arith, past))) ∙ sym (row-none es n v all past)
+    ]
 
 -- whether an edge is there can be seen in the row of its source
 pub has_edge-row : (es : List Edge) (t x : ℕ) → has_edge es t x ≡ list_any (λ e. e.dst == x) (row es t)
@@ -188,12 +207,13 @@ edges_below-all (e ∷ es) n all =
     rw (count_by-cons (λ e. nat_lt e.src n) e es, yes) (omega arith)
 
 -- the first rows are as long as there are edges below
-length-rows_below : (es : List Edge) (n : ℕ) → length (rows_below es n) ≡ edges_below es n
-unfolding rows_below
-length-rows_below es zero = sym (edges_below-none es)
-length-rows_below es (suc n) =
+length-rows_from : (es : List Edge) (n : ℕ) → length (rows_from es 0 n) ≡ edges_below es n
+unfolding rows_from
+length-rows_from es zero = sym (edges_below-none es)
+length-rows_from es (suc n) =
     let e : suc n ≡ n + 1 = omega arith in
-    rw (length-append, length-rows_below es n, length-row es n, e) (sym (edges_below-more es n))
+    let z : 0 + n ≡ n = omega arith in
+    rw (length-append, length-rows_from es n, z, length-row es n, e) (sym (edges_below-more es n))
 
 -- the edges of a row have its vertex as source
 map-row : (v : ℕ) (xs : List Edge) → AllLeave v xs → map (edge_from v) (map out_edge xs) ≡ xs
@@ -203,17 +223,54 @@ map-row v (x ∷ xs) all =
     ap (λ s. edge_from s (out_edge x) ∷ map (edge_from v) (map out_edge xs)) (sym h) ∙ ap (λ l. x ∷ l) (map-row v xs all.1)
 
 -- stored rows that are the rows of a graph are these rows, one after another
-pub edges_of_rows_is : (es : List Edge) (starts : List ℕ) (out : List OutEdge) (n m : ℕ) → n ≤ m
-    → ((v : ℕ) → v < m → stored_row starts out v ≡ map out_edge (row es v)) → edges_of_rows starts out n ≡ rows_below es n
-unfolding edges_of_rows rows_below
-edges_of_rows_is es starts out zero m le rows = refl
-edges_of_rows_is es starts out (suc n) m le rows =
-    rw (edges_of_rows_is es starts out n m (omega arith) rows, rows n (omega arith))
-    (ap (λ l. rows_below es n ++ l) (map-row n (row es n) (AllLeave-row es n)))
+pub edges_of_rows_is : (es : List Edge) (first : ℕ) (starts : List ℕ) (out : List OutEdge) (n m : ℕ) → n ≤ m
+    → ((k : ℕ) → k < m → stored_row starts out k ≡ map out_edge (row es (first + k)))
+    → edges_of_rows first starts out n ≡ rows_from es first n
+unfolding edges_of_rows rows_from
+edges_of_rows_is es first starts out zero m le rows = refl
+edges_of_rows_is es first starts out (suc n) m le rows =
+    rw (edges_of_rows_is es first starts out n m (omega arith) rows, rows n (omega arith))
+    (ap (λ l. rows_from es first n ++ l) (map-row (first + n) (row es (first + n)) (AllLeave-row es (first + n))))
 
 -- together they are as many as the edges of the graph
-pub length-all_rows : (es : List Edge) (n : ℕ) → All (λ e. e.src < n) es → length (rows_below es n) ≡ length es
-length-all_rows es n all = length-rows_below es n ∙ edges_below-all es n all
+pub length-all_rows : (es : List Edge) (n : ℕ) → All (λ e. e.src < n) es → length (rows_from es 0 n) ≡ length es
+length-all_rows es n all = length-rows_from es n ∙ edges_below-all es n all
+
+-- stored rows that follow each other have as many edges as lie between their ends
+pub length-edges_of_rows : (first : ℕ) (starts : List ℕ) (out : List OutEdge) (n : ℕ)
+    → ((k : ℕ) → k < n → slice_index starts k ≤ slice_index starts (k + 1))
+    → ((k : ℕ) → k < n → slice_index starts (k + 1) ≤ length out)
+    → length (edges_of_rows first starts out n) + slice_index starts 0 ≡ slice_index starts n
+unfolding edges_of_rows
+length-edges_of_rows first starts out zero rising within =
+    let none : length (edges_of_rows first starts out 0) ≡ 0 = refl in
+    omega (arith, none)
+length-edges_of_rows first starts out (suc n) rising within =
+    let up : slice_index starts n ≤ slice_index starts (n + 1) = rising n (omega arith) in
+    let low : slice_index starts (n + 1) ≤ length out = within n (omega arith) in
+    let before = length-edges_of_rows first starts out n (λ k h. rising k (omega (arith, h))) (λ k h. within k (omega (arith, h))) in
+    let row_long : length (map (edge_from (first + n)) (stored_row starts out n)) ≡ slice_index starts (n + 1) - slice_index starts n =
+    length-map (stored_row starts out n) (edge_from (first + n))
+    ∙ length-take-le (slice_index starts (n + 1) - slice_index starts n) (drop (slice_index starts n) out)
+    (let e = length-drop (slice_index starts n) out in omega (arith, e, low, up)) in
+    let more = length-append (edges_of_rows first starts out n) (map (edge_from (first + n)) (stored_row starts out n)) in
+    let next : suc n ≡ n + 1 = omega arith in
+    rw next (omega (arith, more, before, row_long, up))
+
+-- the edges of a row leave its vertex
+leaves-row : (P : ℕ → Type 0) (v : ℕ) (xs : List OutEdge) → P v → All (λ e. P e.src) (map (edge_from v) xs)
+leaves-row P v [] p = All-nil (λ e. P e.src)
+leaves-row P v (x ∷ xs) p = All-cons (λ e. P e.src) (edge_from v x) (map (edge_from v) xs) p (leaves-row P v xs p)
+
+-- the edges of stored rows leave the vertices of these rows
+pub sources-in : (first : ℕ) (starts : List ℕ) (out : List OutEdge) (n end : ℕ) → first + n ≤ end
+    → All (λ e. (first ≤ e.src) × (e.src < end)) (edges_of_rows first starts out n)
+unfolding edges_of_rows
+sources-in first starts out zero end h = All-nil (λ e. (first ≤ e.src) × (e.src < end))
+sources-in first starts out (suc n) end h =
+    All-append (λ e. (first ≤ e.src) × (e.src < end)) (edges_of_rows first starts out n) _
+    (sources-in first starts out n end (omega (arith, h)))
+    (leaves-row (λ v. (first ≤ v) × (v < end)) (first + n) (stored_row starts out n) (omega arith, omega (arith, h)))
 
 -- what is true of all edges is true of those of a row
 pub All-row : (P : Edge → Type 0) (es : List Edge) (v : ℕ) → All P es → All P (row es v)

@@ -1,3 +1,4 @@
+pub mod HeadLists
 pub mod OutEdges
 pub mod RowGraph
 pub mod Shelves

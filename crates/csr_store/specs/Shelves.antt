@@ -6,13 +6,13 @@ use Rattle.csr_store.specs.OutEdges.{edge_from}
 
 -- a stored row
 abbrev pub stored_row : List ℕ → List OutEdge → ℕ → List OutEdge
-stored_row starts out v = slice_range out (slice_index starts v) (slice_index starts (v + 1))
+stored_row starts out n = slice_range out (slice_index starts n) (slice_index starts (n + 1))
 
--- the edges of the first rows, row after row
-unfoldable pub edges_of_rows : List ℕ → List OutEdge → ℕ → List Edge
-edges_of_rows starts out zero = []
-edges_of_rows starts out (suc n) =
-    edges_of_rows starts out n ++ map (edge_from n) (stored_row starts out n)
+-- the edges of the first rows, row after row, where the first one is that of a vertex
+unfoldable pub edges_of_rows : ℕ → List ℕ → List OutEdge → ℕ → List Edge
+edges_of_rows first starts out zero = []
+edges_of_rows first starts out (suc n) =
+    edges_of_rows first starts out n ++ map (edge_from (first + n)) (stored_row starts out n)
 
 -- how many edges leave vertices below a vertex
 abbrev pub edges_below : List Edge → ℕ → ℕ

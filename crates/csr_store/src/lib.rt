@@ -2,7 +2,9 @@
 #![tactic(auto)]
 
 mod filling;
+mod heads;
 mod out_edge;
+mod ranges;
 mod rows;
 mod searching;
 mod sorting;
@@ -11,4 +13,6 @@ mod sources;
 mod tests;
 
 pub use out_edge::OutEdge;
+pub use ranges::RowRange;
 pub use rows::Rows;
+pub use searching::{ends_at, ends_below};

@@ -4,12 +4,13 @@ ghost use Rattle.std.specs.Prelude.{◌≡◌, ◌≤◌, ◌<◌, ◌+◌, ◌^
 ghost use Rattle.walk_model.specs.Graph.{row, has_edge, ends_of};
 ghost use Rattle.walk_model.specs.Dart.{ends_below as below, ends_at as at};
 ghost use Rattle.csr_store.specs.OutEdges.{out_edge, kinds_of};
-ghost use Rattle.csr_store.specs.RowGraph.{HoldsEdges};
+ghost use Rattle.csr_store.specs.RowGraph.{HoldsAll, IsWhole};
 ghost use Rattle.csr_store.specs.Shelves.{IsOutEdge};
 
 use crate::filling::fill;
+use crate::heads::Heads;
 use crate::out_edge::OutEdge;
-use crate::searching::{ends_at, ends_below};
+use crate::ranges::RowRange;
 use crate::sorting::sort_rows;
 use crate::sources::row_ends;
 use std::alloc::Global;
@@ -18,27 +19,21 @@ use walk_model::{Edge, Memory};
 
 /// The edges of a graph in rows, seen as its edges, row by row, and the number of its vertices.
 ///
-/// An edge takes 21 bytes: 16 in its row, 4 for its destination in a list of destinations alone, which
-/// steps and searches read, and 1 for its type in a list of types alone, which steps by a scheme read.
+/// They are the rows of the range of all vertices.
 #[derive(Debug, Drop)]
 pub struct Rows {
-    vertices: u32,
-    starts: Vec<u32>,
-    out: Vec<OutEdge>,
-    ends: Vec<u32>,
-    kinds: Vec<u8>,
+    all: RowRange,
 }
 
 impl Model for Rows {
     ghost use Rattle.csr_store.specs.RowGraph.{RowGraph};
+    ghost use Rattle.std.specs.Prelude.{◌≡◌};
 
     ghost Value = { RowGraph };
 
-    ghost use Rattle.csr_store.specs.Stored.{graph_of, IsStored};
+    ghost view = { λ r. record { edges = r.all.edges; vertices = r.all.vertices } };
 
-    ghost view = { graph_of };
-
-    ghost invariant = { IsStored };
+    ghost invariant = { λ r. (r.all.first ≡ 0) × (r.all.end ≡ r.all.vertices) };
 }
 
 /// An edge to be written over.
@@ -52,8 +47,8 @@ const BLANK: OutEdge = OutEdge {
 fn destinations(alloc: Global, out: &[OutEdge]) -> Result<Vec<u32>, Memory>
     ensures { IfOk result (λ r. r.items ≡ map (λ e. e.dst) out.now) }
 {
-    let ends = out.iter().map(|e| e.dst).collect(alloc)?;
-    Ok(ends)
+    let dsts = out.iter().map(|e| e.dst).collect(alloc)?;
+    Ok(dsts)
 }
 
 /// The types of edges, one after another.
@@ -65,23 +60,28 @@ fn types(alloc: Global, out: &[OutEdge]) -> Result<Vec<u8>, Memory>
 }
 
 /// Counts the edges of each vertex, puts them in its row, and sorts each row.
-fn stored(alloc: Global, edges: &[Edge], vertices: u32) -> Result<Rows, Memory>
-    requires ends { All (λ e. (e.src < vertices) × (e.dst < vertices)) edges.now }
-    requires few { length edges.now < 2 ^ 31 }
-    requires weights { All (λ e. (1 ≤ e.weight) × (e.weight < 2 ^ 62)) edges.now }
-    ensures { IfOk result (HoldsEdges edges.now vertices) }
+fn stored(alloc: Global, edges: Vec<Edge>, vertices: u32) -> Result<RowRange, Memory>
+    requires ends { All (λ e. (e.src < vertices) × (e.dst < vertices)) edges.items }
+    requires few { length edges.items < 2 ^ 31 }
+    requires weights { All (λ e. (1 ≤ e.weight) × (e.weight < 2 ^ 62)) edges.items }
+    ensures { IfOk result (HoldsAll edges.items vertices) }
 {
-    let mut starts = row_ends(alloc, edges, vertices)?;
+    let mut starts = row_ends(alloc, &edges, vertices)?;
     let mut out = vec![in alloc; BLANK; edges.len()]?;
-    fill(edges, &mut starts, &mut out);
+    fill(&edges, &mut starts, &mut out);
+    drop(edges);
     sort_rows(alloc, &starts, &mut out)?;
-    let ends = destinations(alloc, &out)?;
+    let dsts = destinations(alloc, &out)?;
     let kinds = types(alloc, &out)?;
-    Ok(Rows {
+    let heads = Heads::of(alloc, &starts)?;
+    Ok(RowRange {
         vertices,
-        starts,
+        first: 0,
+        end: vertices,
+        count: vertices,
+        heads,
         out,
-        ends,
+        dsts,
         kinds,
     })
 }
@@ -101,14 +101,15 @@ impl Rows {
         ensures rows { IfOk result (λ r. (v : ℕ) → row r.edges v ≡ row edges.items v) }
         ensures has { IfOk result (λ r. (t x : ℕ) → has_edge r.edges t x ≡ has_edge edges.items t x) }
     {
-        stored(alloc, &edges, vertices)
+        let all = stored(alloc, edges, vertices)?;
+        Ok(Rows { all })
     }
 
     /// The number of vertices.
     pub fn vertices(&self) -> u32
         ensures { result ≡ self.now.vertices }
     {
-        self.vertices
+        self.all.vertices()
     }
 
     /// The number of edges.
@@ -116,20 +117,25 @@ impl Rows {
         ensures count { result ≡ length self.now.edges }
         ensures few { result < 2 ^ 31 }
     {
-        self.out.len() as u64
+        self.all.edges()
+    }
+
+    /// The same rows as those of the range of all vertices. Nothing is copied.
+    pub fn into_range(self) -> RowRange
+        ensures { IsWhole self result }
+    {
+        self.all
     }
 
     /// The destinations of the edges from a vertex, in their order.
     #[inline]
-    fn ends_from(&self, v: u32) -> &[u32]
+    pub fn dsts(&self, v: u32) -> &[u32]
         requires { v < self.now.vertices }
         ensures ends { result.now ≡ ends_of (row self.now.edges v) }
         ensures few { length result.now < 2 ^ 31 }
         ensures below { All (λ t. t < self.now.vertices) result.now }
     {
-        let v = v as usize;
-        let (from, to) = (self.starts[v], self.starts[v + 1]);
-        &self.ends[from as usize..to as usize]
+        self.all.dsts(v)
     }
 
     /// The destination of the edge at a place of the row of `v`.
@@ -140,18 +146,16 @@ impl Rows {
         ensures end { result ≡ slice_index (ends_of (row self.now.edges v)) edge }
         ensures below { result < self.now.vertices }
     {
-        self.ends_from(v)[edge]
+        self.all.end_of(v, edge)
     }
 
     /// The types of the edges from a vertex, in their order.
     #[inline]
-    fn kinds_from(&self, v: u32) -> &[u8]
+    pub fn kinds(&self, v: u32) -> &[u8]
         requires { v < self.now.vertices }
         ensures { result.now ≡ kinds_of (row self.now.edges v) }
     {
-        let v = v as usize;
-        let (from, to) = (self.starts[v], self.starts[v + 1]);
-        &self.kinds[from as usize..to as usize]
+        self.all.kinds(v)
     }
 
     /// The type of the edge at a place of the row of `v`.
@@ -161,7 +165,7 @@ impl Rows {
         requires edge { edge < length (row self.now.edges v) }
         ensures { result ≡ slice_index (kinds_of (row self.now.edges v)) edge }
     {
-        self.kinds_from(v)[edge]
+        self.all.kind_of(v, edge)
     }
 
     /// The edges from a vertex by destination, then type, then place in the list.
@@ -172,9 +176,7 @@ impl Rows {
         ensures few { length result.now < 2 ^ 31 }
         ensures edges { All (IsOutEdge self.now.vertices) result.now }
     {
-        let from = self.starts[v as usize] as usize;
-        let to = self.starts[v as usize + 1] as usize;
-        &self.out[from..to]
+        self.all.row(v)
     }
 
     /// Whether there is an edge from `t` to `x`.
@@ -184,9 +186,7 @@ impl Rows {
         requires to { x < self.now.vertices }
         ensures { result ≡ has_edge self.now.edges t x }
     {
-        let ends = self.ends_from(t);
-        let place = ends_below(ends, x);
-        place < ends.len() && ends[place] == x
+        self.all.has(t, x)
     }
 
     /// The half-open range of the places in the row of `v` whose edges end at `t`. Where there is
@@ -199,9 +199,6 @@ impl Rows {
         ensures to { result.1 ≡ result.0 + at (Some t) (ends_of (row self.now.edges v)) }
         ensures within { result.1 ≤ length (row self.now.edges v) }
     {
-        let ends = self.ends_from(v);
-        let from = ends_below(ends, t);
-        let count = ends_at(&ends[from..], t);
-        (from, from + count)
+        self.all.run(v, t)
     }
 }

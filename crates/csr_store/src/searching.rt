@@ -6,9 +6,9 @@ ghost use Rattle.std.specs.List.Sorted.{IsNonDecreasing};
 /// Rows up to this length are looked through from end to end.
 const SHORT: usize = 16;
 
-/// How many ends lie below a vertex.
+/// How many of a row's ends, which don't fall, lie below a vertex.
 #[inline]
-pub(crate) fn ends_below(ends: &[u32], t: u32) -> usize
+pub fn ends_below(ends: &[u32], t: u32) -> usize
     requires { IsNonDecreasing ends.now }
     ensures { result ≡ count_by (λ e. nat_lt e t) ends.now }
 {
@@ -19,9 +19,9 @@ pub(crate) fn ends_below(ends: &[u32], t: u32) -> usize
     }
 }
 
-/// How many ends are a vertex, where none lies below it.
+/// How many of a row's ends, which don't fall, are a vertex, where none of them lies below it.
 #[inline]
-pub(crate) fn ends_at(ends: &[u32], t: u32) -> usize
+pub fn ends_at(ends: &[u32], t: u32) -> usize
     requires order { IsNonDecreasing ends.now }
     requires least { All (λ e. t ≤ e) ends.now }
     ensures { result ≡ count_by (λ e. e == t) ends.now }
