@@ -1,0 +1,6 @@
+mod CutLemmas
+pub mod OwnerLaws
+mod PartLemmas
+pub mod ReachLaws
+mod TablingLemmas
+pub mod WeightLaws

@@ -1,0 +1,9 @@
+pub mod Balance
+pub mod CutViews
+pub mod Fronts
+pub mod Limits
+pub mod OutWeights
+pub mod PartViews
+pub mod Reaches
+pub mod StoredParts
+pub mod Tabled
