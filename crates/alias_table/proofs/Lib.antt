@@ -1,7 +1,8 @@
 mod SumLemmas
-mod FrontLemmas
+pub mod FrontLemmas
 mod WidthLemmas
 mod FillLemmas
 mod TableLemmas
 mod InverseLemmas
 pub mod ShareLemmas
+pub mod PieceLaws

@@ -18,7 +18,7 @@ use Rattle.alias_table.proofs.ShareLemmas.{piece-shares}
 use Rattle.factor_table.specs.Factors.{greatest_of}
 use Rattle.factor_table.proofs.FactorLaws.{greatest-above}
 use Rattle.dart_envelope.specs.ClassBoards.{ClassBoard, board_by, frame, height, rise, first_other, known_at, MayHave, Suits}
-use Rattle.dart_envelope.specs.Conditions.{IsBoard, IsReturnRun}
+use Rattle.dart_envelope.specs.Conditions.{IsBoard, IsReturnRun, Rises}
 use Rattle.dart_envelope.specs.Hits.{is_edge, HasFairHits, HasFairScans}
 use Rattle.dart_envelope.specs.Scans.{total_of, scan_of}
 use Rattle.dart_envelope.proofs.AreaLemmas.{row-some, area-some}
@@ -284,47 +284,67 @@ high-part : (h l f n w strip : ℕ) → l ≡ f - h → strip ≡ w → min h f 
 high-part h l f n w strip is same = rw (is, same) (both-parts h f (n * w))
 
 -- an edge outside the run hasn't the return class
-pub not-return : (count : ℕ) (b : ClassBoard) (run : ℕ × ℕ) (edge class : ℕ) → IsReturnRun count b.factors b.known run
+pub not-return : (count : ℕ) (b : ClassBoard) (run : ℕ × ℕ) (edge class : ℕ) → IsReturnRun count b.factors b.known run → Rises b.factors
     → edge < length b.known → (run.0 ≤ edge → edge < run.1 → ⊥) → MayHave (known_at b edge) 1 class → 1 ≤ class
-not-return count b run edge class is inside out may = cases (known_at b edge) refl may
+not-return count b run edge class is rises inside out may = cases (known_at b edge) refl may
   where
     cases : (told : Option ℕ) → known_at b edge ≡ told → MayHave told 1 class → 1 ≤ class
     cases None e h = h
-    cases (Some zero) e h = let there = (is.edges edge inside).0 e in absurd (out there.0 there.1)
+    cases (Some zero) e h = let there = (is.edges rises edge inside).0 e in absurd (out there.0 there.1)
     cases (Some (suc k)) e h = omega (arith, h)
 
--- where no class is the return class, an edge lies within the main part
+-- where the factor of class 0 doesn't rise, none is above the greatest of the others
+factor-under : (fs : List ℕ) (class : ℕ) → get_or fs 0 0 ≤ greatest_of (drop 1 fs) → class < length fs → get_or fs class 0 ≤ greatest_of (drop 1 fs)
+factor-under fs zero flat within = flat
+factor-under fs (suc class) flat within = factor-within fs 1 (suc class) (omega arith) within
+
+-- where nothing rises, an edge lies within the main part
+hits-flat : (count : ℕ) (b : ClassBoard) (classes : List ℕ) (edge : ℕ) → IsBoard count b → Suits b classes → edge < length b.weights
+    → rise b.back b.factors (height b) ≡ 0 → get_or b.factors (get_or classes edge 0) 0 ≤ height b
+    → count_below (area (board_by b classes)) (λ x. is_edge edge (edge_at (board_by b classes) x))
+    ≡ length b.weights * get_or b.weights edge 0 * get_or b.factors (get_or classes edge 0) 0
+hits-flat count b classes edge board suits inside flat under =
+    let long = suits.long in
+    count-places (board_by b classes) edge _ board.high board.row.some (piece-shares b.weights edge (row-some b.weights board.row) inside) refl
+    ∙ ap (λ k. min (height b) k * (length b.weights * get_or b.weights edge 0) + rise b.back b.factors (height b) * (length b.weights * count_below (sum (back_weights (board_by b classes))) (λ z. (board_by b classes).back_from + first_above z (back_weights (board_by b classes)) == edge)))
+    (factor-by b classes edge (omega arith))
+    ∙ low-part (height b) (rise b.back b.factors (height b)) (get_or b.factors (get_or classes edge 0) 0) (length b.weights) (get_or b.weights edge 0) _ under flat
+
+-- so it is without a return class
 hits-none : (count : ℕ) (b : ClassBoard) (classes : List ℕ) (edge : ℕ) → IsBoard count b → Suits b classes → edge < length b.weights → b.back ≡ None
     → count_below (area (board_by b classes)) (λ x. is_edge edge (edge_at (board_by b classes) x))
     ≡ length b.weights * get_or b.weights edge 0 * get_or b.factors (get_or classes edge 0) 0
 hits-none count b classes edge board suits inside e =
-    let long = suits.long in
     let class = get_or classes edge 0 in
-    let f = get_or b.factors class 0 in
     let first : first_other b.back ≤ class = rw e (omega arith) in
-    let under : f ≤ height b = factor-within b.factors (first_other b.back) class first (suits.below edge inside) in
-    let flat : rise b.back b.factors (height b) ≡ 0 = rw e refl in
-    count-places (board_by b classes) edge _ board.high board.row.some (piece-shares b.weights edge (row-some b.weights board.row) inside) refl
-    ∙ ap (λ k. min (height b) k * (length b.weights * get_or b.weights edge 0) + rise b.back b.factors (height b) * (length b.weights * count_below (sum (back_weights (board_by b classes))) (λ z. (board_by b classes).back_from + first_above z (back_weights (board_by b classes)) == edge)))
-    (factor-by b classes edge (omega arith))
-    ∙ low-part (height b) (rise b.back b.factors (height b)) f (length b.weights) (get_or b.weights edge 0) _ under flat
+    hits-flat count b classes edge board suits inside (rw e refl) (factor-within b.factors (first_other b.back) class first (suits.below edge inside))
+
+-- and with one whose factor doesn't rise, whatever its run
+hits-under : (count : ℕ) (b : ClassBoard) (classes : List ℕ) (edge : ℕ) (run : ℕ × ℕ) → IsBoard count b → Suits b classes → edge < length b.weights
+    → b.back ≡ Some run → get_or b.factors 0 0 ≤ greatest_of (drop 1 b.factors)
+    → count_below (area (board_by b classes)) (λ x. is_edge edge (edge_at (board_by b classes) x))
+    ≡ length b.weights * get_or b.weights edge 0 * get_or b.factors (get_or classes edge 0) 0
+hits-under count b classes edge run board suits inside e flat =
+    let none : get_or b.factors 0 0 - greatest_of (drop 1 b.factors) ≡ 0 = omega (arith, flat) in
+    let under = factor-under b.factors (get_or classes edge 0) flat (suits.below edge inside) in
+    hits-flat count b classes edge board suits inside (rw e none) (rw e under)
 
 -- the run of a board lies in its row
 run-inside : (count : ℕ) (b : ClassBoard) (run : ℕ × ℕ) → IsBoard count b → IsReturnRun count b.factors b.known run → run.0 + (run.1 - run.0) ≤ length b.weights
 run-inside count b run board is = let long = board.long in let order = is.order in let within = is.within in omega arith
 
 hits-out : (count : ℕ) (b : ClassBoard) (classes : List ℕ) (edge : ℕ) (run : ℕ × ℕ) → IsBoard count b → Suits b classes → edge < length b.weights
-    → b.back ≡ Some run → IsReturnRun count b.factors b.known run → (run.0 ≤ edge → edge < run.1 → ⊥)
+    → b.back ≡ Some run → IsReturnRun count b.factors b.known run → Rises b.factors → (run.0 ≤ edge → edge < run.1 → ⊥)
     → count_below (area (board_by b classes)) (λ x. is_edge edge (edge_at (board_by b classes) x))
     ≡ length b.weights * get_or b.weights edge 0 * get_or b.factors (get_or classes edge 0) 0
-hits-out count b classes edge run board suits inside e is out =
+hits-out count b classes edge run board suits inside e is rises out =
     let long = suits.long in
     let known = board.long in
     let order = is.order in
     let class = get_or classes edge 0 in
     let f = get_or b.factors class 0 in
     let may = rw (e) at (suits.may edge inside) in
-    let first : first_other b.back ≤ class = rw e (not-return count b run edge class is (omega arith) out may) in
+    let first : first_other b.back ≤ class = rw e (not-return count b run edge class is rises (omega arith) out may) in
     let under : f ≤ height b = factor-within b.factors (first_other b.back) class first (suits.below edge inside) in
     let misses : count_below (sum (back_weights (board_by b classes))) (λ z. (board_by b classes).back_from + first_above z (back_weights (board_by b classes)) == edge) ≡ 0 =
     rw e (run-misses b.weights run.0 (run.1 - run.0) edge (λ low high. out low (omega arith)) (run-inside count b run board is)) in
@@ -334,16 +354,16 @@ hits-out count b classes edge run board suits inside e is out =
     ∙ strip-none (height b) (rise b.back b.factors (height b)) f (length b.weights) (get_or b.weights edge 0) 0 under refl
 
 hits-in : (count : ℕ) (b : ClassBoard) (classes : List ℕ) (edge : ℕ) (run : ℕ × ℕ) → IsBoard count b → Suits b classes → edge < length b.weights
-    → b.back ≡ Some run → IsReturnRun count b.factors b.known run → run.0 ≤ edge → edge < run.1
+    → b.back ≡ Some run → IsReturnRun count b.factors b.known run → Rises b.factors → run.0 ≤ edge → edge < run.1
     → count_below (area (board_by b classes)) (λ x. is_edge edge (edge_at (board_by b classes) x))
     ≡ length b.weights * get_or b.weights edge 0 * get_or b.factors (get_or classes edge 0) 0
-hits-in count b classes edge run board suits inside e is low high =
+hits-in count b classes edge run board suits inside e is above low high =
     let long = suits.long in
     let known = board.long in
     let order = is.order in
     let class = get_or classes edge 0 in
     let w = get_or b.weights edge 0 in
-    let told : known_at b edge ≡ Some 0 = (is.edges edge (omega arith)).1 (low, high) in
+    let told : known_at b edge ≡ Some 0 = (is.edges above edge (omega arith)).1 (low, high) in
     let class_is : class ≡ 0 = rw told at (suits.may edge inside) in
     let rises : rise b.back b.factors (height b) ≡ get_or b.factors class 0 - height b = rw (class_is) (risen b.back run b.factors (height b) e) in
     let hits : count_below (sum (back_weights (board_by b classes))) (λ z. (board_by b classes).back_from + first_above z (back_weights (board_by b classes)) == edge) ≡ w =
@@ -367,12 +387,15 @@ fair-places count b classes edge board suits inside = cases b.back refl board.ru
         ≡ length b.weights * get_or b.weights edge 0 * get_or b.factors (get_or classes edge 0) 0
     cases None e is = hits-none count b classes edge board suits inside e
     cases (Some run) e is =
-        elim (cases_lt edge run.0) [
-          | inl before ↦ hits-out count b classes edge run board suits inside e is (λ low high. omega arith)
-          | inr from ↦ elim (cases_lt edge run.1) [
-            | inl within ↦ hits-in count b classes edge run board suits inside e is from within
-            | inr behind ↦ hits-out count b classes edge run board suits inside e is (λ low high. omega arith)
+        elim (cases_lt (greatest_of (drop 1 b.factors)) (get_or b.factors 0 0)) [
+          | inl rises ↦ elim (cases_lt edge run.0) [
+            | inl before ↦ hits-out count b classes edge run board suits inside e is rises (λ low high. omega arith)
+            | inr from ↦ elim (cases_lt edge run.1) [
+              | inl within ↦ hits-in count b classes edge run board suits inside e is rises from within
+              | inr behind ↦ hits-out count b classes edge run board suits inside e is rises (λ low high. omega arith)
+            ]
           ]
+          | inr flat ↦ hits-under count b classes edge run board suits inside e flat
         ]
 
 -- and so of the words

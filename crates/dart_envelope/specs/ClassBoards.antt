@@ -4,7 +4,8 @@ use Rattle.factor_table.specs.Factors.{greatest_of, least_of}
 use Rattle.walk_model.specs.Dart.{Board}
 
 -- the weights of a row, the factor of each class, the class of each edge where it is known, and,
--- where class 0 is that of the return edges, their run: its first place and the one behind it
+-- where class 0 is that of the return edges, their run: its first place and the one behind it. Which
+-- run matters only where the factor of class 0 rises above the others
 pub record ClassBoard : Type 0 where
   pub weights : List ℕ
   pub factors : List ℕ

@@ -1,5 +1,5 @@
 -- What boards may be made of, and what they keep.
-use Rattle.std.specs.Prelude.{◌≡◌, ℕ, ◌*◌, ◌^◌, ◌≤◌, ◌<◌, ◌↔◌, List, length, sum, drop, slice_index_or, Option, Some, None, IfSome, Any}
+use Rattle.std.specs.Prelude.{◌≡◌, ℕ, ◌*◌, ◌^◌, ◌≤◌, ◌<◌, ◌↔◌, List, length, sum, drop, slice_index, slice_index_or, Option, Some, None, IfSome, Any}
 use Rattle.walk_model.specs.Dart.{main_area, area}
 use Rattle.alias_table.specs.Columns.{IsRow}
 use Rattle.factor_table.specs.Factors.{greatest_of}
@@ -9,12 +9,17 @@ use Rattle.dart_envelope.specs.ClassBoards.{ClassBoard, height, low, rise, frame
 abbrev pub HaveFactors : List (Option ℕ) → ℕ → Type 0
 HaveFactors known count = (edge : ℕ) → edge < length known → IfSome (slice_index_or known edge None) (λ class. class < count)
 
--- the edges of the run, and no others, are known to have class 0, and another class has a factor
+-- the factor of class 0 lies above those of all other classes
+abbrev pub Rises : List ℕ → Type 0
+Rises factors = greatest_of (drop 1 factors) < slice_index factors 0
+
+-- a run of places in the row, where another class has a factor; and where the factor of class 0 rises,
+-- the edges of the run, and no others, are known to have that class
 pub record IsReturnRun (count : ℕ) (factors : List ℕ) (known : List (Option ℕ)) (run : ℕ × ℕ) : Type 0 where
   pub classes : 2 ≤ count
   pub order : run.0 ≤ run.1
   pub within : run.1 ≤ length known
-  pub edges : (edge : ℕ) → edge < length known
+  pub edges : Rises factors → (edge : ℕ) → edge < length known
       → (slice_index_or known edge None ≡ Some 0) ↔ ((run.0 ≤ edge) × (edge < run.1))
   pub other : Any (λ factor. 1 ≤ factor) (drop 1 factors)
 

@@ -128,7 +128,8 @@ fn split(place: u64, height: u64) -> (u64, u64)
 
 impl<'a, C: Classes, const K: usize> Board<'a, C, K> {
     /// The board of a row with `K` classes. `back` is the run of the return edges, as the place of the
-    /// first and the one behind the last, where class 0 is theirs. It takes time linear in that run.
+    /// first and the one behind the last, where class 0 is theirs. Where their factor rises above the
+    /// others it takes time linear in that run; elsewhere any run serves, as that of places 0 to 0.
     ///
     /// The number of edges times the sum of their weights times the greatest factor is at most 2^62.
     #[inline]

@@ -1,4 +1,5 @@
-ghost use Rattle.std.specs.Prelude.{◌≡◌, ◌≤◌, ◌<◌, ◌^◌, length};
+ghost use Rattle.std.specs.Prelude.{◌≡◌, ◌≤◌, ◌<◌, ◌^◌, length, drop, slice_index, Any};
+ghost use Rattle.factor_table.specs.Factors.{greatest_of};
 ghost use Rattle.dart_envelope.specs.Scans.{total_of};
 
 use super::*;
@@ -158,6 +159,105 @@ fn two_return_edges<L: Ledger, R: Abort + AllocGlobal>(
     Ok(())
 }
 
+fn a_run_behind_others<L: Ledger, R: Abort + AllocGlobal>(
+    rt: &R,
+    steps: &mut Steps<L>,
+) -> Result<(), Memory> {
+    let table = AliasTable::build(rt.alloc(), &[1, 1, 2])?;
+    let factors = FactorTable::new([16, 4, 1]);
+    let classes = Listed {
+        known: &[None, Some(0), Some(0)],
+    };
+    let board = Board::new(&table, &factors, &classes, Some((1, 3)));
+    // 48 places of the main part, and 108 of the strip: 36 for each unit of the two edges' weight
+    expect_verdicts(
+        rt,
+        &board,
+        156,
+        &[
+            (0, Verdict::Take { edge: 0 }),
+            (1, Verdict::Need { edge: 0, height: 1 }),
+            (15, Verdict::Take { edge: 2 }),
+            (16, Verdict::Take { edge: 1 }),
+            (47, Verdict::Take { edge: 2 }),
+            (48, Verdict::Take { edge: 1 }),
+            (83, Verdict::Take { edge: 1 }),
+            (84, Verdict::Take { edge: 2 }),
+            (155, Verdict::Take { edge: 2 }),
+            (18446744073709551599, Verdict::Take { edge: 2 }),
+            (18446744073709551600, Verdict::Miss),
+        ],
+        steps,
+    );
+    Ok(())
+}
+
+/// Asserts the area and verdicts of the board of three edges of weight 1, the first of them a return
+/// edge, where the factor of the return class rises above no other and any run serves.
+fn expect_flat<L: Ledger, R: Abort + AllocGlobal>(
+    rt: &R,
+    factors: &FactorTable<3>,
+    run: (usize, usize),
+    area: u64,
+    cases: &[(u64, Verdict)],
+    steps: &mut Steps<L>,
+) -> Result<(), Memory>
+    requires flat { slice_index factors.now 0 ≤ greatest_of (drop 1 factors.now) }
+    requires other { Any (λ factor. 1 ≤ factor) (drop 1 factors.now) }
+    requires low { greatest_of factors.now ≤ 16 }
+    requires run { (run.0 ≤ run.1) × (run.1 ≤ 3) }
+{
+    let table = AliasTable::build(rt.alloc(), &[1, 1, 1])?;
+    let classes = Listed {
+        known: &[Some(0), None, None],
+    };
+    let board = Board::new(&table, factors, &classes, Some(run));
+    expect_verdicts(rt, &board, area, cases, steps);
+    Ok(())
+}
+
+fn boards_that_do_not_rise<L: Ledger, R: Abort + AllocGlobal>(
+    rt: &R,
+    steps: &mut Steps<L>,
+) -> Result<(), Memory> {
+    // 48 places an edge, 16 a unit of the columns; heights 1 to 3 need no class
+    let low = [
+        (0, Verdict::Take { edge: 0 }),
+        (1, Verdict::Turned),
+        (47, Verdict::Turned),
+        (48, Verdict::Take { edge: 1 }),
+        (49, Verdict::Take { edge: 1 }),
+        (50, Verdict::Take { edge: 1 }),
+        (51, Verdict::Take { edge: 1 }),
+        (52, Verdict::Need { edge: 1, height: 4 }),
+        (97, Verdict::Take { edge: 2 }),
+        (99, Verdict::Take { edge: 2 }),
+        (100, Verdict::Need { edge: 2, height: 4 }),
+        (
+            18446744073709551599,
+            Verdict::Need {
+                edge: 2,
+                height: 15,
+            },
+        ),
+        (18446744073709551600, Verdict::Miss),
+    ];
+    let factors = FactorTable::new([1, 4, 16]);
+    expect_flat(rt, &factors, (0, 0), 144, &low, steps)?;
+    expect_flat(rt, &factors, (1, 3), 144, &low, steps)?;
+    // as high as the others: 12 places an edge
+    let even = [
+        (3, Verdict::Take { edge: 0 }),
+        (11, Verdict::Take { edge: 0 }),
+        (12, Verdict::Take { edge: 1 }),
+        (13, Verdict::Need { edge: 1, height: 1 }),
+        (35, Verdict::Need { edge: 2, height: 3 }),
+        (36, Verdict::Take { edge: 0 }),
+    ];
+    let factors = FactorTable::new([4, 4, 1]);
+    expect_flat(rt, &factors, (0, 0), 36, &even, steps)
+}
+
 /// Throws at each of the boards.
 fn throw_at_all<L: Ledger, R: Abort + AllocGlobal>(rt: &R, blank: Blank) -> Result<(), Memory>
     requires name { blank.name ≡ L.name }
@@ -169,7 +269,9 @@ fn throw_at_all<L: Ledger, R: Abort + AllocGlobal>(rt: &R, blank: Blank) -> Resu
     no_word_misses(rt, &mut steps)?;
     classes_without_a_return(rt, &mut steps)?;
     a_return_edge(rt, &mut steps)?;
-    two_return_edges(rt, &mut steps)
+    two_return_edges(rt, &mut steps)?;
+    a_run_behind_others(rt, &mut steps)?;
+    boards_that_do_not_rise(rt, &mut steps)
 }
 
 #[test]

@@ -17,7 +17,7 @@ flat_board weights factors height from count = record {
 }
 
 -- all its places are in the main part
-area-flat : (ws fs : List ℕ) (h from count : ℕ) → area (flat_board ws fs h from count) ≡ length ws * sum ws * h
+pub area-flat : (ws fs : List ℕ) (h from count : ℕ) → area (flat_board ws fs h from count) ≡ length ws * sum ws * h
 area-flat ws fs h from count = omega arith
 
 -- which no run of edges changes

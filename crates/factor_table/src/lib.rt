@@ -8,5 +8,5 @@ mod table;
 #[cfg(test)]
 mod tests;
 
-pub use classes::{Classes, OneClass};
+pub use classes::{Classes, OneClass, RowClasses};
 pub use table::FactorTable;

@@ -78,3 +78,14 @@ fn cases(rt: HostRuntime) -> Result<(), Fail> {
     assert_eq!(rt; factor_at(&Choice::Typed, 2), 1);
     Ok(())
 }
+
+#[test]
+fn one_class(rt: HostRuntime) -> Result<(), Fail> {
+    let classes = OneClass { len: 3 };
+    for place in 0..3 {
+        assert_eq!(rt; classes.known(place), Some(0));
+        assert_eq!(rt; classes.class_at(place), 0);
+    }
+    assert_eq!(rt; classes.back(), None);
+    Ok(())
+}

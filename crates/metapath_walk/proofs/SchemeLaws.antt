@@ -10,8 +10,8 @@ use Rattle.walk_model.specs.Factor.{wanted_kind, factor}
 use Rattle.walk_model.specs.Dart.{height_of, lift_of, ends_below, ends_at, board_of, darts}
 use Rattle.factor_table.proofs.FlatBoardLaws.{flat_board, darts-flat}
 use Rattle.csr_store.specs.declared.out_edge.OutEdge.{OutEdge}
-use Rattle.csr_store.specs.OutEdges.{out_edge}
-use Rattle.metapath_walk.specs.TypeClasses.{type_classes, known_class, AreSchemeFactors}
+use Rattle.csr_store.specs.OutEdges.{out_edge, kinds_of}
+use Rattle.metapath_walk.specs.TypeClasses.{class_of_type, classes_of_types, known_of_types, type_classes, known_class, AreSchemeFactors}
 
 -- 1 and 0 are the factors of the two classes
 pub scheme_factors-are : AreSchemeFactors (1 ∷ 0 ∷ [])
@@ -26,6 +26,18 @@ scheme_factors-are = record {
     by_test false = refl
 
 pub ruleset scheme_laws = (scheme_factors-are)
+
+-- the classes of a row's types are those of its edges
+pub types-classes : (wanted : ℕ) (out : List Edge)
+    → classes_of_types wanted (kinds_of out) ≡ type_classes wanted (map out_edge out)
+types-classes wanted [] = refl
+types-classes wanted (e ∷ es) = ap (λ l. class_of_type e.kind wanted ∷ l) (types-classes wanted es)
+
+-- and so is what is known of them
+pub types-known : (wanted : ℕ) (out : List Edge)
+    → known_of_types wanted (kinds_of out) ≡ map (known_class wanted) (map out_edge out)
+types-known wanted [] = refl
+types-known wanted (e ∷ es) = ap (λ l. Some (class_of_type e.kind wanted) ∷ l) (types-known wanted es)
 
 -- the factors of the classes of some edges are the factors of the edges
 pub factors-by_type : (edges : List Edge) (kinds : List ℕ) (previous : Option ℕ) (phase : ℕ) (out : List Edge)

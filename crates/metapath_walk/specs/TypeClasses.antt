@@ -12,6 +12,14 @@ use Rattle.factor_table.specs.Factors.{greatest_of}
 abbrev pub class_of_type : ℕ → ℕ → ℕ
 class_of_type kind wanted = if kind == wanted then 0 else 1
 
+-- the classes of edges of some types
+abbrev pub classes_of_types : ℕ → List ℕ → List ℕ
+classes_of_types wanted kinds = map (λ kind. class_of_type kind wanted) kinds
+
+-- what is known of these classes: all
+abbrev pub known_of_types : ℕ → List ℕ → List (Option ℕ)
+known_of_types wanted kinds = map (λ kind. Some (class_of_type kind wanted)) kinds
+
 -- the class of an edge
 abbrev pub type_class : ℕ → OutEdge → ℕ
 type_class wanted e = class_of_type e.kind wanted

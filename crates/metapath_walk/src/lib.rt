@@ -5,4 +5,4 @@ mod scheme;
 #[cfg(test)]
 mod tests;
 
-pub use scheme::{SchemeClasses, class_of_type, scheme_factors, wanted};
+pub use scheme::{SchemeClasses, TypeClasses, class_of_type, scheme_factors, wanted};

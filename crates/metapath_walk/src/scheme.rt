@@ -1,11 +1,11 @@
 //! The classes and the factors of a scheme.
 
-ghost use Rattle.std.specs.Prelude.{◌≡◌, [], ◌∷◌, map};
+ghost use Rattle.std.specs.Prelude.{◌≡◌, [], ◌∷◌, None, map};
 ghost use Rattle.walk_model.specs.Factor.{wanted_kind};
-ghost use Rattle.metapath_walk.specs.TypeClasses.{class_of_type, known_class, AreSchemeFactors};
+ghost use Rattle.metapath_walk.specs.TypeClasses.{class_of_type, known_class, classes_of_types, known_of_types, AreSchemeFactors};
 
 use csr_store::OutEdge;
-use factor_table::{Classes, FactorTable};
+use factor_table::{Classes, FactorTable, RowClasses};
 use walk_model::Kinds;
 
 /// The type that a scheme wants in a phase: its types come in turn, again and again.
@@ -46,5 +46,37 @@ impl<'a> Classes for SchemeClasses<'a> {
     #[inline]
     fn known(&self, edge: usize) -> Option<usize> {
         Some(class_of_type(self.row[edge].kind, self.wanted))
+    }
+}
+
+/// A row whose edges are classed by their type, as the list of the types of its edges. Each class is known.
+#[derive(Clone, Copy, Debug)]
+pub struct TypeClasses<'a> {
+    pub kinds: &'a [u8],
+    pub wanted: u8,
+}
+
+impl<'a> Classes for TypeClasses<'a> {
+    ghost known_classes = { λ s. known_of_types s.wanted s.kinds.now };
+
+    #[inline]
+    fn known(&self, edge: usize) -> Option<usize> {
+        Some(class_of_type(self.kinds[edge], self.wanted))
+    }
+}
+
+impl<'a> RowClasses for TypeClasses<'a> {
+    ghost classes = { λ s. classes_of_types s.wanted s.kinds.now };
+
+    ghost back = { λ s. None };
+
+    #[inline]
+    fn class_at(&self, edge: usize) -> usize {
+        class_of_type(self.kinds[edge], self.wanted)
+    }
+
+    #[inline]
+    fn back(&self) -> Option<(usize, usize)> {
+        None
     }
 }

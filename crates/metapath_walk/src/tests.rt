@@ -1,6 +1,6 @@
 use super::*;
 use csr_store::OutEdge;
-use factor_table::Classes;
+use factor_table::{Classes, RowClasses};
 use std::test::Fail;
 use walk_model::Kinds;
 
@@ -46,5 +46,22 @@ fn factors_of_a_row(rt: HostRuntime) -> Result<(), Fail> {
         assert_eq!(rt; factors.factor(class), factor);
     }
     assert_eq!(rt; (factors.greatest(), factors.least()), (1, 0));
+    Ok(())
+}
+
+#[test]
+fn classes_by_types(rt: HostRuntime) -> Result<(), Fail> {
+    let kinds = [4u8, 5, 5, 0, 255];
+    let classes = TypeClasses {
+        kinds: &kinds,
+        wanted: 5,
+    };
+    let cases = [(0, 1), (1, 0), (2, 0), (3, 1), (4, 1)];
+    for (place, class) in cases {
+        assert!(rt; place < kinds.len());
+        assert_eq!(rt; classes.known(place), Some(class));
+        assert_eq!(rt; classes.class_at(place), class);
+    }
+    assert_eq!(rt; classes.back(), None);
     Ok(())
 }

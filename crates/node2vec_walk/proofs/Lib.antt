@@ -1,2 +1,3 @@
 pub mod NodeLaws
 pub mod RunLaws
+pub mod DestinationLaws

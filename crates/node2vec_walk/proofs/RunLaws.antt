@@ -12,10 +12,10 @@ use Rattle.csr_store.proofs.SearchLemmas.{Rises, Rises-from_row, row-rises, belo
 use Rattle.node2vec_walk.specs.Nearness.{known_to, known_class}
 
 -- how many edges end below a vertex, and how many at it
-abbrev below : ℕ → List ℕ → ℕ
+abbrev pub below : ℕ → List ℕ → ℕ
 below t xs = count_by (λ e. nat_lt e t) xs
 
-abbrev at : ℕ → List ℕ → ℕ
+abbrev pub at : ℕ → List ℕ → ℕ
 at t xs = count_by (λ e. e == t) xs
 
 -- edge k is known to be of class 0 where its place lies in the run, and nowhere else
@@ -40,7 +40,7 @@ none-at least t (x ∷ xs) h up =
     rw (count_by-cons (λ e. e == t) x xs, no, none-at x t xs (omega arith) up.1) refl
 
 -- what is known of the edges of a row by their ends, whose run begins behind those that end below the vertex
-abbrev AreKnown : ℕ → List ℕ → Type 0
+abbrev pub AreKnown : ℕ → List ℕ → Type 0
 AreKnown t xs = (k : ℕ) → k < length xs → IsKnownInRun t xs k (below t xs) (at t xs)
 
 -- an edge that ends below the vertex stands in front of the run
@@ -93,7 +93,8 @@ behind t x xs e up later (suc k) h =
       λ r. (let high = r.1 in absurd (omega arith)),
     )
 
-known-in_rising : (least t : ℕ) (xs : List ℕ) → Rises least xs → AreKnown t xs
+-- the edges that are known to be of class 0, by destinations that rise, are those of the run
+pub known-in_rising : (least t : ℕ) (xs : List ℕ) → Rises least xs → AreKnown t xs
 known-in_rising least t [] up = λ k h. absurd (omega arith)
 known-in_rising least t (x ∷ xs) up =
     let later = known-in_rising x t xs up.1 in
@@ -110,7 +111,7 @@ known-in_rising least t (x ∷ xs) up =
     cases (nat_lt x t) refl
 
 -- what a row knows of its edges goes by their ends
-known-ends : (t : ℕ) (out : List Edge) → map (known_class t) (map out_edge out) ≡ map (λ x. known_to x t) (ends_of out)
+pub known-ends : (t : ℕ) (out : List Edge) → map (known_class t) (map out_edge out) ≡ map (λ x. known_to x t) (ends_of out)
 unfolding ends_of
 known-ends t [] = refl
 known-ends t (e ∷ es) = ap (λ l. known_to e.dst t ∷ l) (known-ends t es)

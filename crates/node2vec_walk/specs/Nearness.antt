@@ -7,7 +7,7 @@ use Rattle.walk_model.specs.Graph.{has_edge}
 use Rattle.walk_model.specs.Factor.{factor, greatest_factor, return_factor, common_factor, far_factor}
 use Rattle.walk_model.specs.Dart.{height_of, lift_of}
 use Rattle.csr_store.specs.declared.out_edge.OutEdge.{OutEdge}
-use Rattle.factor_table.specs.Factors.{greatest_of}
+use Rattle.factor_table.specs.Factors.{greatest_of, least_of}
 
 -- the class of an edge to x after a step from t: 0 where it goes back to t, else 1 where x is near,
 -- that is where there is an edge from t to x, and 2 where x is far
@@ -25,6 +25,11 @@ known_to x t = if x == t then Some 0 else None
 -- what a row knows of the class of one of its edges
 abbrev pub known_class : ℕ → OutEdge → Option ℕ
 known_class t e = known_to e.dst t
+
+-- the heights at which a dart wants to know an edge's class: from the least factor of the classes other
+-- than class 0 up to below the greatest
+abbrev pub zone_of : List ℕ → ℕ × ℕ
+zone_of fs = (least_of (drop 1 fs), greatest_of (drop 1 fs))
 
 -- the factors of the three classes
 abbrev pub class_factors : Fraction → Fraction → List ℕ

@@ -1,8 +1,7 @@
 //! The classes and the factors of node2vec.
 
-ghost use Rattle.std.specs.Prelude.{◌≡◌, ◌≤◌, ◌<◌, ◌*◌, drop, map, IfSome, IfNone};
-ghost use Rattle.factor_table.specs.Factors.{greatest_of, least_of};
-ghost use Rattle.node2vec_walk.specs.Nearness.{class_to, known_to, known_class, class_factors, AreNodeFactors};
+ghost use Rattle.std.specs.Prelude.{◌≡◌, ◌≤◌, ◌<◌, ◌*◌, map, IfSome, IfNone};
+ghost use Rattle.node2vec_walk.specs.Nearness.{class_to, known_to, known_class, class_factors, zone_of, AreNodeFactors};
 
 use csr_store::OutEdge;
 use factor_table::{Classes, FactorTable};
@@ -74,12 +73,12 @@ pub fn class_of(x: u32, back: u32, near: bool) -> usize
     }
 }
 
-/// The least and the greatest of the factors of classes 1 and 2. A dart whose height lies from the one
-/// up to below the other wants to know an edge's class.
+/// The least and the greatest of the factors of classes 1 and 2, which are a board's where class 0 is that
+/// of the return edges. A dart whose height lies from the one up to below the other wants to know an edge's
+/// class.
 #[inline]
 pub fn zone(factors: &FactorTable<3>) -> (u64, u64)
-    ensures least { result.0 ≡ least_of (drop 1 factors.now) }
-    ensures greatest { result.1 ≡ greatest_of (drop 1 factors.now) }
+    ensures { result ≡ zone_of factors.now }
 {
     (factors.least_from(1), factors.greatest_from(1))
 }

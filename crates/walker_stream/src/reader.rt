@@ -2,7 +2,7 @@
 
 ghost use Rattle.std.specs.Prelude.{◌≡◌, ℕ, ◌≤◌, ◌<◌, ◌+◌, ◌*◌, ◌^◌, slice_index};
 ghost use Rattle.rand_chacha.specs.ChaCha.{key_of};
-ghost use Rattle.walk_model.specs.Words.{word, draw, key_bytes};
+ghost use Rattle.walk_model.specs.Words.{word, draw, coin, key_bytes};
 ghost use Rattle.walker_stream.specs.Folds.{HasFairFolds};
 ghost use Rattle.walker_stream.specs.Standing.{standing, pair_at};
 
@@ -11,6 +11,7 @@ use rand_chacha::ChaCha8Rng;
 use rand_core::SeedableRng;
 use rand_core::utils::NextWord;
 use std::marker::Model;
+use walk_model::Fraction;
 
 /// Words of 64 bits that one refill gives: those of four blocks.
 const HELD: usize = 32;
@@ -180,6 +181,27 @@ impl StreamReader {
         }
     }
 
+    /// Moves to a place of a walker's stream under a seed. A generator is keyed anew only where the seed
+    /// is another; elsewhere it is a seek.
+    #[inline]
+    pub fn follow(&mut self, seed: u64, walker: u64, place: u64)
+        ensures { self.new ≡ standing seed walker place }
+    {
+        if seed == self.seed {
+            self.seek(walker, place);
+        } else {
+            self.begin_anew(seed, walker, place);
+        }
+    }
+
+    /// Begins at a place of a walker's stream with another generator.
+    #[inline(never)]
+    fn begin_anew(&mut self, seed: u64, walker: u64, place: u64)
+        ensures { self.new ≡ standing seed walker place }
+    {
+        *self = StreamReader::at(seed, walker, place);
+    }
+
     /// Moves to a place of a walker's stream with a refill.
     #[inline(never)]
     fn jump(&mut self, walker: u64, place: u64)
@@ -215,5 +237,22 @@ impl StreamReader {
             }
         }
         self.next() % below
+    }
+
+    /// Whether a coin falls that does so with this chance. It takes no word where the chance is 0, and
+    /// else those of one draw, 64 at most.
+    #[tactic(auto, unfolding(walk_model::specs::Words::coin))]
+    #[inline]
+    pub fn coin(&mut self, chance: Fraction) -> bool
+        requires room { self.old.place ≤ 2 ^ 63 }
+        ensures value { (result, self.new.place) ≡ coin chance (word self.old.seed self.old.walker) self.old.place }
+        ensures stream { self.new ≡ record self.old { place = self.new.place } }
+        ensures onward { self.old.place ≤ self.new.place }
+        ensures next { self.new.place ≤ self.old.place + 64 }
+    {
+        if chance.top == 0 {
+            return false;
+        }
+        self.draw(u64::from(chance.bottom)) < u64::from(chance.top)
     }
 }

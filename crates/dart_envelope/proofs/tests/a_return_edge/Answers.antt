@@ -25,7 +25,7 @@ new-board-requires g c = (
             classes = omega arith;
             order = omega arith;
             within = omega arith;
-            edges = first_alone;
+            edges = λ rises. first_alone;
             other = rw c.new-factors.ensures (0, 4, omega arith, refl, omega arith);
           },
         ),

@@ -24,7 +24,7 @@ new-board-requires g c = (
             classes = omega arith;
             order = omega arith;
             within = omega arith;
-            edges = both;
+            edges = λ rises. both;
             other = rw c.new-factors.ensures (0, 4, omega arith, refl, omega arith);
           },
         ),
