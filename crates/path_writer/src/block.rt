@@ -6,7 +6,7 @@ use itoa::write_digits;
 use std::marker::Model;
 
 /// The number of bytes that a block has room for.
-pub(crate) const ROOM: usize = 8192;
+pub(crate) const ROOM: usize = 65536;
 
 /// The bytes that wait to be written, seen as their list.
 #[derive(Drop)]
@@ -22,7 +22,7 @@ impl Model for Block {
 
     ghost view = { λ b. take b.len b.bytes };
 
-    ghost invariant = { λ b. b.len ≤ 8192 };
+    ghost invariant = { λ b. b.len ≤ 65536 };
 }
 
 impl Block {
@@ -40,7 +40,7 @@ impl Block {
     #[inline(always)]
     pub(crate) fn len(&self) -> usize
         ensures count { result ≡ length self.now }
-        ensures within { result ≤ 8192 }
+        ensures within { result ≤ 65536 }
     {
         self.len
     }
@@ -62,7 +62,7 @@ impl Block {
     /// Adds a byte.
     #[inline(always)]
     pub(crate) fn push_byte(&mut self, byte: u8)
-        requires { length self.old + 1 ≤ 8192 }
+        requires { length self.old + 1 ≤ 65536 }
         ensures { self.new ≡ self.old ++ byte ∷ [] }
     {
         self.bytes[self.len] = byte;
@@ -72,7 +72,7 @@ impl Block {
     /// Adds a number in decimal, which takes at most ten bytes.
     #[inline(always)]
     pub(crate) fn push_number(&mut self, number: u32)
-        requires { length self.old + 10 ≤ 8192 }
+        requires { length self.old + 10 ≤ 65536 }
         ensures { self.new ≡ self.old ++ decimal number }
     {
         let end = self.len + digit_count(number);

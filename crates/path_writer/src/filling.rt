@@ -29,8 +29,8 @@ pub(crate) fn flush<K: Sink>(block: &mut Block, out: &mut K) -> Result<(), Faile
 /// Makes room for so many bytes more, by writing all that waits if need be.
 #[inline(always)]
 fn make_room<K: Sink>(block: &mut Block, out: &mut K, count: usize) -> Result<(), Failed>
-    requires { count ≤ 8192 }
-    ensures room { OnOk result (length block.new + count ≤ 8192) }
+    requires { count ≤ 65536 }
+    ensures room { OnOk result (length block.new + count ≤ 65536) }
     ensures whole { OnOk result (GainsBut (K.bytes out.old) (K.bytes out.new) block.old block.new) }
     ensures front { OnErr result (GainsFront (K.bytes out.old) (K.bytes out.new) block.old) }
     ensures later { K.faults out.old ≤ K.faults out.new }

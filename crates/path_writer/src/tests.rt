@@ -20,15 +20,6 @@ fn names_of_two(alloc: Global, low: u32, high: u32) -> Result<Names, Fail> {
     Ok(names)
 }
 
-/// Walks by ranks.
-fn walks_of(alloc: Global, rows: &[&[u32]]) -> Result<Finished, Fail> {
-    let mut walks = Vec::new(alloc);
-    for row in rows {
-        walks.push(Vec::from_slice(alloc, row)?)?;
-    }
-    Ok(Finished::of(walks))
-}
-
 /// Whether each rank of a walk is below a number.
 fn is_below(walk: &[u32], count: u32) -> bool
     ensures { result ≡ true → All (λ r. r < count) walk.now }
@@ -58,38 +49,39 @@ fn are_named(names: &Names, finished: &Finished) -> bool
 fn written(
     alloc: Global,
     ids: (u32, u32),
-    rows: &[&[u32]],
+    finished: &Finished,
     mut sink: MemorySink,
 ) -> Result<(bool, MemorySink), Fail> {
     let names = names_of_two(alloc, ids.0, ids.1)?;
-    let finished = walks_of(alloc, rows)?;
-    if !are_named(&names, &finished) {
+    if !are_named(&names, finished) {
         return Err(Fail::new("a rank without a name"));
     }
-    let whole = write_walks(&finished, &names, &mut sink).is_ok();
+    let whole = write_walks(finished, &names, &mut sink).is_ok();
     Ok((whole, sink))
 }
 
 #[test]
 fn lines_of_walks(rt: HostRuntime) -> Result<(), Fail> {
     let alloc = rt.alloc();
-    let empty: [&[u32]; 0] = [];
-    for (ids, rows, text) in [
+    for (ids, finished, text) in [
         (
             (5, 9),
-            [[0, 1].as_slice(), [1].as_slice()].as_slice(),
+            Finished::of(vec![in alloc; 0, 1, 1]?, vec![in alloc; 0, 2]?),
             b"5 9\n9\n".as_slice(),
         ),
-        ((5, 9), empty.as_slice(), b"".as_slice()),
-        ((5, 9), [[].as_slice()].as_slice(), b"\n".as_slice()),
+        (
+            (5, 9),
+            Finished::of(vec![in alloc]?, vec![in alloc]?),
+            b"".as_slice(),
+        ),
         (
             (0, u32::MAX),
-            [[1, 0].as_slice(), [].as_slice(), [0].as_slice()].as_slice(),
-            b"4294967295 0\n\n0\n".as_slice(),
+            Finished::of(vec![in alloc; 1, 0, 1, 0]?, vec![in alloc; 0, 2, 3]?),
+            b"4294967295 0\n4294967295\n0\n".as_slice(),
         ),
     ] {
         let sink = MemorySink::new(alloc, 64, vec![in alloc]?, 64)?;
-        let (whole, sink) = written(alloc, ids, rows, sink)?;
+        let (whole, sink) = written(alloc, ids, &finished, sink)?;
         assert!(rt; whole);
         assert_eq!(rt; sink.bytes.as_slice(), text);
     }
@@ -99,18 +91,19 @@ fn lines_of_walks(rt: HostRuntime) -> Result<(), Fail> {
 #[test]
 fn many_blocks(rt: HostRuntime) -> Result<(), Fail> {
     let alloc = rt.alloc();
-    let walk = vec![in alloc; 1; 3_000]?;
-    let rows = [walk.as_slice(), [0].as_slice()];
-    let sink = MemorySink::new(alloc, 40_000, vec![in alloc]?, 40_000)?;
-    let (whole, sink) = written(alloc, (7, u32::MAX), &rows, sink)?;
+    let mut entries = vec![in alloc; 1; 30_000]?;
+    entries.push(0)?;
+    let finished = Finished::of(entries, vec![in alloc; 0, 30_000]?);
+    let sink = MemorySink::new(alloc, 400_000, vec![in alloc]?, 400_000)?;
+    let (whole, sink) = written(alloc, (7, u32::MAX), &finished, sink)?;
     assert!(rt; whole);
-    assert_eq!(rt; sink.bytes.len(), 33_002);
-    // one call for each block of 8192 bytes, but for what an entry may leave of it
-    assert_eq!(rt; sink.calls, 5);
+    assert_eq!(rt; sink.bytes.len(), 330_002);
+    // one call for each block of 65536 bytes, but for what an entry may leave of it
+    assert_eq!(rt; sink.calls, 6);
     for (i, b) in sink.bytes.iter().enumerate() {
         let wanted = match i {
-            32_999 | 33_001 => b'\n',
-            33_000 => b'7',
+            329_999 | 330_001 => b'\n',
+            330_000 => b'7',
             _ => b"4294967295 "[i % 11],
         };
         assert_eq!(rt; *b, wanted, "at {i}");
@@ -121,9 +114,9 @@ fn many_blocks(rt: HostRuntime) -> Result<(), Fail> {
 #[test]
 fn a_sink_that_fails(rt: HostRuntime) -> Result<(), Fail> {
     let alloc = rt.alloc();
-    let rows = [[0, 1].as_slice(), [1].as_slice()];
+    let finished = Finished::of(vec![in alloc; 0, 1, 1]?, vec![in alloc; 0, 2]?);
     let sink = MemorySink::new(alloc, 64, vec![in alloc; 2]?, 3)?;
-    let (whole, sink) = written(alloc, (5, 9), &rows, sink)?;
+    let (whole, sink) = written(alloc, (5, 9), &finished, sink)?;
     assert!(rt; !whole);
     assert_eq!(rt; sink.bytes.as_slice(), b"5 9".as_slice());
     let mut sink = MemorySink::new(alloc, 4, vec![in alloc]?, 3)?;

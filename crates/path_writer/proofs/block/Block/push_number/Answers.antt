@@ -6,10 +6,10 @@ use Rattle.path_writer.proofs.block.Block.push_number.Goals as goal
 
 pub write_digits-requires : goal.write_digits-requires
 write_digits-requires c =
-    let kept : c.self.inside.len ≤ 8192 = c.self.invariant in
-    let array : length c.self.inside.bytes ≡ 8192 = c.self.told in
+    let kept : c.self.inside.len ≤ 65536 = c.self.invariant in
+    let array : length c.self.inside.bytes ≡ 65536 = c.self.told in
     let size : length c.args.self.now ≡ c.self.inside.len = ap length (sym c.self.view_is) ∙ length-take-le c.self.inside.len c.self.inside.bytes (omega arith) in
-    let room : length c.args.self.now + 10 ≤ 8192 = c.requires in
+    let room : length c.args.self.now + 10 ≤ 65536 = c.requires in
     let count : c.digit_count.result ≡ length (decimal c.args.number) = c.digit_count.ensures.count in
     let few : c.digit_count.result ≤ 10 = c.digit_count.ensures.few in
     (omega arith, omega arith)
