@@ -1,5 +1,5 @@
 -- Walks in ranks and in names.
-use Rattle.std.proofs.Common.{◌≡◌, ◌<◌, ◌≤◌, ℕ, zero, suc, Bool, true, false, List, [], ◌∷◌, ◌++◌, length, map, get_or, refl, ap, sym, subst, ◌∙◌, arith, Option, Some, None}
+use Rattle.std.proofs.Common.{◌≡◌, ◌<◌, ◌≤◌, ◌+◌, ℕ, zero, suc, Bool, true, false, List, [], ◌∷◌, ◌++◌, length, map, get_or, refl, ap, sym, subst, ◌∙◌, arith, Option, Some, None}
 use Rattle.std.specs.Prelude.{nat_lt, ◌==◌, slice_index, All, IsTrue, IfSome}
 use Rattle.std.proofs.Math.Nat.{mod-lt}
 use Rattle.vertex_names.proofs.NameLaws.{ranked-ends, name-at_rank}
@@ -10,21 +10,22 @@ use Rattle.std.proofs.lemmas.List.Elements.{All-head, All-tail, All-map}
 use Rattle.walk_model.specs.declared.graph.Edge.{Edge}
 use Rattle.walk_model.specs.declared.programme.StartRule.{StartRule}
 use Rattle.walk_model.specs.declared.programme.StartRule.TheVariants.{Each, Spread, From}
-use Rattle.walk_model.specs.Settings.{Settings}
 use Rattle.walk_model.specs.Words.{word}
 use Rattle.walk_model.specs.Course.{Course, course, run_on}
 use Rattle.walk_model.specs.Walk.{walk, walk_of, walker_count, start_of, first_state, next_state, entry_and, entries_after}
 use Rattle.walk_model.specs.declared.states.State.{State}
 use Rattle.walk_model.specs.Graph.{vertices_of}
 use Rattle.walk_model.proofs.RenameLemmas.{Keeps, EndsIn, StandsIn, renamed, walk-renamed, next_state-in}
-use Rattle.walk_model.proofs.SameRowLemmas.{SameRows, walk-same}
 use Rattle.vertex_names.specs.Ranks.{is_name, ranked, AreNamed}
 use Rattle.vertex_names.proofs.IndexLemmas.{later}
-use Rattle.csr_store.specs.RowGraph.{RowGraph}
-use Rattle.walk_top.proofs.GroundLemmas.{append-each}
-use Rattle.walk_top.specs.Ranked.{IsRankedBy}
-use Rattle.walk_top.specs.Starts.{start_rank, StartsIn, IsRankOf, rank_walk, rank_walks}
-use Rattle.walk_top.specs.Outputs.{below}
+use Rattle.walk_model.specs.Numbers.{below}
+use Rattle.traveller.specs.declared.runs.Run.{Run}
+use Rattle.traveller.specs.PartedRuns.{PartedRun, walk_in}
+use Rattle.traveller.specs.Runs.{start_fits, start_rank}
+use Rattle.traveller.specs.Standing.{parted}
+use Rattle.shard_core.specs.Walks.{walks_in}
+use Rattle.walk_top.specs.Readiness.{ranked_graph}
+use Rattle.walk_top.specs.Starts.{IsRankOf}
 
 -- an earlier or equal place of rising names holds no greater one
 at_most : (names : List ℕ) → IsStrictlyIncreasing names → (x y : ℕ) → x < length names → y ≤ x
@@ -86,43 +87,52 @@ ranks-in n (e ∷ es) h =
     let head = All-head (λ (d : Edge). (d.src < n) × (d.dst < n)) e es h in
     (head.0, head.1, ranks-in n es (All-tail (λ (d : Edge). (d.src < n) × (d.dst < n)) e es h))
 
-start-named : (rule : StartRule) (names : List ℕ) (from walker : ℕ) → IsRankOf rule names from
-    → slice_index names (start_rank rule (length names) from walker) ≡ start_of rule names walker
+start-named : (rule : StartRule) (names : List ℕ) (start : Option ℕ) (walker : ℕ) → IsRankOf rule names start
+    → slice_index names (start_rank rule (length names) start walker) ≡ start_of rule names walker
 unfolding start_of
-start-named Each names from walker is = refl
-start-named (Spread walkers) names from walker is = refl
-start-named (From walkers id) names from walker is = is
+start-named Each names start walker is = refl
+start-named (Spread walkers) names start walker is = refl
+start-named (From walkers id) names start walker is = is
 
-start-in : (rule : StartRule) (n from walker : ℕ) → StartsIn rule n from → walker < walker_count rule n
-    → start_rank rule n from walker < n
+start-in : (rule : StartRule) (n : ℕ) (start : Option ℕ) (walker : ℕ) → IsTrue (start_fits rule n start)
+    → (0 < walker_count rule n → 0 < n) → walker < walker_count rule n → start_rank rule n start walker < n
 unfolding walker_count
-start-in Each n from walker starts low = low
-start-in (Spread walkers) n from walker starts low = mod-lt walker (starts (omega (arith, low)))
-start-in (From walkers id) n from walker starts low = starts (omega (arith, low))
+start-in Each n start walker fits some low = low
+start-in (Spread walkers) n start walker fits some low = mod-lt walker (some (omega (arith, low)))
+start-in (From walkers id) n None walker fits some low = absurd (cc)
+start-in (From walkers id) n (Some start) walker fits some low = let test : nat_lt start n ≡ true = fits in grind (arith, nat_tests)
+
+-- a run over the vertices of a graph, whose walkers can start
+pub record StartsOn (names : List ℕ) (run : Run) : Type 0 where
+  pub vertices : run.vertices ≡ length names
+  pub rank : IsRankOf run.plan.start names run.start
+  pub some : 0 < walker_count run.plan.start run.vertices → 0 < run.vertices
+
+start-stands : (names : List ℕ) (run : Run) (walker : ℕ) → StartsOn names run → walker < walker_count run.plan.start run.vertices
+    → start_rank run.plan.start run.vertices run.start walker < length names
+start-stands names run walker on low =
+    let inside = start-in run.plan.start run.vertices run.start walker run.starts on.some low in
+    let count = on.vertices in
+    omega (arith, inside, count)
 
 -- the walk of a walker in ranks, in names
-pub walk-named : (edges : List Edge) (plan : Settings) (seed from walker : ℕ) (g : RowGraph)
-    → IsStrictlyIncreasing (vertices_of edges) → AreNamed (vertices_of edges) edges → IsRankedBy (vertices_of edges) edges g
-    → IsRankOf plan.start (vertices_of edges) from → StartsIn plan.start g.vertices from
-    → walker < walker_count plan.start g.vertices
-    → walk_of (run_on edges plan seed) walker ≡ map (slice_index (vertices_of edges)) (rank_walk g plan seed from walker)
-unfolding rank_walk
-walk-named edges plan seed from walker g up named by is starts low =
+pub walk-named : (edges : List Edge) (run : Run) (cuts : List ℕ) (walker : ℕ)
+    → IsStrictlyIncreasing (vertices_of edges) → AreNamed (vertices_of edges) edges → StartsOn (vertices_of edges) run
+    → walker < walker_count run.plan.start run.vertices
+    → walk_of (run_on edges run.plan run.seed) walker
+    ≡ map (slice_index (vertices_of edges)) (walk_in (parted (ranked_graph (vertices_of edges) edges) run cuts) walker)
+walk-named edges run cuts walker up named on low =
     let names : List ℕ = vertices_of edges in
     let f : ℕ → ℕ = slice_index names in
-    let start : ℕ = start_rank plan.start g.vertices from walker in
-    let inside = start-in plan.start g.vertices from walker starts low in
-    let count = by.vertices in
-    let stands : start < length names = omega (arith, inside, count) in
+    let start : ℕ = start_rank run.plan.start run.vertices run.start walker in
+    let stands : start < length names = start-stands names run walker on low in
     let ranks : List Edge = map (ranked names) edges in
     let ends : EndsIn (λ r. r < length names) ranks = ranks-in (length names) ranks (ranked-ends names edges named) in
-    let same : SameRows g.edges ranks = record { rows = by.rows; has = by.has } in
-    let first : f start ≡ start_of plan.start names walker =
-    rw by.vertices (start-named plan.start names from walker is) in
-    ap (λ s. walk (course edges plan (word seed walker) s) plan.length) (sym first)
-    ∙ ap (λ es. walk (course es plan (word seed walker) (f start)) plan.length) (sym (edges-back names edges up named))
-    ∙ walk-renamed f (λ r. r < length names) (names-keep names up) (course ranks plan (word seed walker) start) plan.length ends stands
-    ∙ ap (map f) (sym (walk-same g.edges ranks same plan (word seed walker) start plan.length))
+    let first : f start ≡ start_of run.plan.start names walker =
+    rw on.vertices (start-named run.plan.start names run.start walker on.rank) in
+    ap (λ s. walk (course edges run.plan (word run.seed walker) s) run.plan.length) (sym first)
+    ∙ ap (λ es. walk (course es run.plan (word run.seed walker) (f start)) run.plan.length) (sym (edges-back names edges up named))
+    ∙ walk-renamed f (λ r. r < length names) (names-keep names up) (course ranks run.plan (word run.seed walker) start) run.plan.length ends stands
 
 map-below : (n : ℕ) (f h : ℕ → List ℕ) → ((i : ℕ) → i < n → f i ≡ h i) → map f (below n) ≡ map h (below n)
 unfolding below
@@ -136,17 +146,18 @@ map-twice f h [] = refl
 map-twice f h (x ∷ xs) = ap (λ l. f (h x) ∷ l) (map-twice f h xs)
 
 -- all walks in ranks, in names
-pub walks-named : (edges : List Edge) (plan : Settings) (seed from : ℕ) (g : RowGraph)
-    → IsStrictlyIncreasing (vertices_of edges) → AreNamed (vertices_of edges) edges → IsRankedBy (vertices_of edges) edges g
-    → IsRankOf plan.start (vertices_of edges) from → StartsIn plan.start g.vertices from
-    → map (walk_of (run_on edges plan seed)) (below (walker_count plan.start (length (vertices_of edges))))
-    ≡ map (map (slice_index (vertices_of edges))) (rank_walks g plan seed from)
-walks-named edges plan seed from g up named by is starts =
-    ap (λ n. map (walk_of (run_on edges plan seed)) (below (walker_count plan.start n))) (sym by.vertices)
-    ∙ map-below (walker_count plan.start g.vertices) (walk_of (run_on edges plan seed))
-    (λ i. map (slice_index (vertices_of edges)) (rank_walk g plan seed from i))
-    (λ i low. walk-named edges plan seed from i g up named by is starts low)
-    ∙ sym (map-twice (map (slice_index (vertices_of edges))) (rank_walk g plan seed from) (below (walker_count plan.start g.vertices)))
+pub walks-named : (edges : List Edge) (run : Run) (cuts : List ℕ)
+    → IsStrictlyIncreasing (vertices_of edges) → AreNamed (vertices_of edges) edges → StartsOn (vertices_of edges) run
+    → map (walk_of (run_on edges run.plan run.seed)) (below (walker_count run.plan.start (length (vertices_of edges))))
+    ≡ map (map (slice_index (vertices_of edges))) (walks_in (parted (ranked_graph (vertices_of edges) edges) run cuts))
+unfolding walks_in
+walks-named edges run cuts up named on =
+    let g : PartedRun = parted (ranked_graph (vertices_of edges) edges) run cuts in
+    ap (λ n. map (walk_of (run_on edges run.plan run.seed)) (below (walker_count run.plan.start n))) (sym on.vertices)
+    ∙ map-below (walker_count run.plan.start run.vertices) (walk_of (run_on edges run.plan run.seed))
+    (λ i. map (slice_index (vertices_of edges)) (walk_in g i))
+    (λ i low. walk-named edges run cuts i up named on low)
+    ∙ sym (map-twice (map (slice_index (vertices_of edges))) (walk_in g) (below (walker_count run.plan.start run.vertices)))
 
 -- entries that are all among some numbers
 abbrev AllIn : (ℕ → Type 0) → List ℕ → Type 0
@@ -175,29 +186,34 @@ entries_after-in In (suc n) c s h hb hs =
     (λ t ht. entries_after-in In n c t h hb ht)
 
 -- the entries of a walk in ranks are ranks
-walk-within : (edges : List Edge) (names : List ℕ) (plan : Settings) (seed from walker : ℕ) (g : RowGraph)
-    → AreNamed names edges → IsRankedBy names edges g → StartsIn plan.start g.vertices from
-    → walker < walker_count plan.start g.vertices → All (λ r. r < length names) (rank_walk g plan seed from walker)
-unfolding rank_walk
-walk-within edges names plan seed from walker g all by starts low =
-    let start : ℕ = start_rank plan.start g.vertices from walker in
-    let inside = start-in plan.start g.vertices from walker starts low in
-    let count = by.vertices in
-    let stands : start < length names = omega (arith, inside, count) in
+walk-within : (edges : List Edge) (run : Run) (cuts : List ℕ) (walker : ℕ) → AreNamed (vertices_of edges) edges
+    → StartsOn (vertices_of edges) run → walker < walker_count run.plan.start run.vertices
+    → All (λ r. r < length (vertices_of edges)) (walk_in (parted (ranked_graph (vertices_of edges) edges) run cuts) walker)
+walk-within edges run cuts walker all on low =
+    let names : List ℕ = vertices_of edges in
+    let start : ℕ = start_rank run.plan.start run.vertices run.start walker in
+    let stands : start < length names = start-stands names run walker on low in
     let ranks : List Edge = map (ranked names) edges in
     let ends : EndsIn (λ r. r < length names) ranks = ranks-in (length names) ranks (ranked-ends names edges all) in
-    let same : SameRows g.edges ranks = record { rows = by.rows; has = by.has } in
-    subst (λ (l : List ℕ). All (λ r. r < length names) l) (sym (walk-same g.edges ranks same plan (word seed walker) start plan.length))
-    (all-AllIn (λ r. r < length names) (walk (course ranks plan (word seed walker) start) plan.length) (
+    all-AllIn (λ r. r < length names) (walk (course ranks run.plan (word run.seed walker) start) run.plan.length) (
       stands,
-      entries_after-in (λ r. r < length names) plan.length (course ranks plan (word seed walker) start) (first_state start) ends stands
+      entries_after-in (λ r. r < length names) run.plan.length (course ranks run.plan (word run.seed walker) start) (first_state start) ends stands
           (record { at = stands; before = tt }),
-    ))
+    )
 
 length-below : (n : ℕ) → length (below n) ≡ n
 unfolding below
 length-below zero = refl
 length-below (suc n) = length-append (below n) (n ∷ []) ∙ rw (length-below n) (omega arith)
+
+-- one more element of a list whose elements are known by their places
+append-each : {X : Type 0} (f : ℕ → X) (xs : List X) (x : X) → ((k : ℕ) (d : X) → k < length xs → get_or xs k d ≡ f k)
+    → x ≡ f (length xs) → (k : ℕ) (d : X) → k < length xs + 1 → get_or (xs ++ x ∷ []) k d ≡ f k
+append-each f [] x each last zero d low = last
+append-each f [] x each last (suc k) d low = absurd (omega arith)
+append-each f (y ∷ ys) x each last zero d low = each 0 d (omega arith)
+append-each f (y ∷ ys) x each last (suc k) d low =
+    append-each (λ n. f (suc n)) ys x (λ j e there. each (suc j) e (omega arith)) last k d (omega arith)
 
 below-at : (n k d : ℕ) → k < n → get_or (below n) k d ≡ k
 unfolding below
@@ -207,13 +223,14 @@ below-at (suc n) k d low =
     (let count = length-below n in omega (arith, low, count))
 
 -- and so are those of all walks
-pub walks-within : (edges : List Edge) (names : List ℕ) (plan : Settings) (seed from : ℕ) (g : RowGraph)
-    → AreNamed names edges → IsRankedBy names edges g → StartsIn plan.start g.vertices from
-    → All (λ walk. All (λ r. r < length names) walk) (rank_walks g plan seed from)
-walks-within edges names plan seed from g all by starts =
-    let count : ℕ = walker_count plan.start g.vertices in
-    All-map (λ walk. All (λ r. r < length names) walk) (rank_walk g plan seed from) (below count)
+pub walks-within : (edges : List Edge) (run : Run) (cuts : List ℕ) → AreNamed (vertices_of edges) edges → StartsOn (vertices_of edges) run
+    → All (λ walk. All (λ r. r < length (vertices_of edges)) walk) (walks_in (parted (ranked_graph (vertices_of edges) edges) run cuts))
+unfolding walks_in
+walks-within edges run cuts all on =
+    let count : ℕ = walker_count run.plan.start run.vertices in
+    All-map (λ walk. All (λ r. r < length (vertices_of edges)) walk) (walk_in (parted (ranked_graph (vertices_of edges) edges) run cuts)) (below count)
     (λ k d low.
     (let size = length-below count in
     let spot : k < count = omega (arith, low, size) in
-    rw (below-at count k d spot) (walk-within edges names plan seed from k g all by starts spot)))
+    subst (λ i. All (λ r. r < length (vertices_of edges)) (walk_in (parted (ranked_graph (vertices_of edges) edges) run cuts) i))
+    (sym (below-at count k d spot)) (walk-within edges run cuts k all on spot)))

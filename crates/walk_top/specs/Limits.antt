@@ -1,6 +1,7 @@
 -- What a task is refused for once its graph is read: its counts, its start, its weights.
 use Rattle.std.specs.Prelude.{ℕ, ◌+◌, ◌*◌, ◌^◌, ◌&&◌, ◌==◌, nat_lt, if◌then◌else◌, List, length, find, Option, Some, None, option_map}
 use Rattle.std.specs.Option.{option_or}
+use Rattle.walk_model.specs.declared.limits.TheConstants.{MAX_PATH_ENTRIES, MAX_VERTICES}
 use Rattle.walk_model.specs.declared.graph.Edge.{Edge}
 use Rattle.walk_model.specs.declared.programme.StartRule.{StartRule}
 use Rattle.walk_model.specs.declared.programme.StartRule.TheVariants.{Each, Spread, From}
@@ -17,8 +18,8 @@ use Rattle.vertex_names.specs.Ranks.{is_name}
 -- the limit that is passed by a number of vertices, or by the entries of so many walkers' paths
 abbrev pub passed_limit : ℕ → ℕ → ℕ → Option Limit
 passed_limit vertices walkers length =
-    if nat_lt 16777216 vertices then Some Vertices
-    else (if nat_lt 134217728 (walkers * (length + 1)) then Some PathEntries else None)
+    if nat_lt MAX_VERTICES vertices then Some Vertices
+    else (if nat_lt MAX_PATH_ENTRIES (walkers * (length + 1)) then Some PathEntries else None)
 
 -- the fault of a start that is missing: its id is no vertex, or there is no vertex for walkers that
 -- are asked for

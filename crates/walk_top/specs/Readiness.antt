@@ -1,23 +1,40 @@
 -- When walks may begin.
-use Rattle.std.specs.Prelude.{ℕ, ◌≡◌, ◌≤◌, ◌<◌, ◌^◌, List}
+use Rattle.std.specs.Prelude.{ℕ, ◌≡◌, ◌<◌, List, length, map}
 use Rattle.walk_model.specs.declared.graph.Edge.{Edge}
 use Rattle.walk_model.specs.Settings.{Settings}
 use Rattle.walk_model.specs.Graph.{vertices_of}
-use Rattle.walk_model.specs.Fits.{reach_of}
+use Rattle.walk_model.specs.Walk.{walker_count}
+use Rattle.vertex_names.specs.Ranks.{ranked}
+use Rattle.csr_store.specs.RowGraph.{RowGraph}
+use Rattle.vertex_partition.specs.PartViews.{IsPartOf}
+use Rattle.traveller.specs.Standing.{Suits, parted}
+use Rattle.shard_core.specs.Abreast.{OwnsAll}
+use Rattle.shard_core.specs.Walks.{walks_in}
 use Rattle.walk_top.specs.declared.readying.Ready.{Ready}
-use Rattle.walk_top.specs.Ranked.{IsRankedBy}
-use Rattle.walk_top.specs.Starts.{StartsIn, IsRankOf}
+use Rattle.walk_top.specs.Starts.{IsRankOf}
 
--- a plan can be walked: the tables are by its weights, its walkers can start, and no vertex overflows
-pub record IsWalkable (plan : Settings) (r : Ready) : Type 0 where
-  pub weighted : r.ground.weighted ≡ plan.weighted
-  pub starts : StartsIn plan.start r.ground.rows.vertices r.from
-  pub within : (v : ℕ) → v < r.ground.rows.vertices → reach_of r.ground.rows.edges plan v ≤ 2 ^ 62
+-- a graph in ranks
+abbrev pub ranked_graph : List ℕ → List Edge → RowGraph
+ranked_graph names edges = record { edges = map (ranked names) edges; vertices = length names }
 
--- it is ready to be walked on a graph: the names are those of the graph, the rows are its edges in
--- ranks, and the plan's start has its rank
-pub record IsReadyFor (edges : List Edge) (plan : Settings) (r : Ready) : Type 0 where
+-- a run can be walked: the part has all vertices and suits the run, and where there are walkers there is a
+-- vertex
+pub record IsWalkable (r : Ready) : Type 0 where
+  pub suits : Suits r.run r.part
+  pub all : OwnsAll r.part
+  pub some : 0 < walker_count r.run.plan.start r.run.vertices → 0 < r.run.vertices
+
+-- a graph is ready to be walked by a plan with a seed: the names are those of the graph, the run is the
+-- plan's over them, its start has its rank, and the part is one of the graph in ranks
+pub record IsReadyFor (edges : List Edge) (plan : Settings) (seed : ℕ) (r : Ready) : Type 0 where
   pub names : r.names ≡ vertices_of edges
-  pub rows : IsRankedBy (vertices_of edges) edges r.ground.rows
-  pub from : IsRankOf plan.start (vertices_of edges) r.from
-  pub walkable : IsWalkable plan r
+  pub plan_is : r.run.plan ≡ plan
+  pub seed_is : r.run.seed ≡ seed
+  pub vertices : r.run.vertices ≡ length (vertices_of edges)
+  pub rank : IsRankOf plan.start (vertices_of edges) r.run.start
+  pub part : IsPartOf (ranked_graph (vertices_of edges) edges) r.part
+  pub walkable : IsWalkable r
+
+-- the walks of a graph that is ready, in ranks, on a graph of which it has the part
+abbrev pub ready_walks : RowGraph → Ready → List (List ℕ)
+ready_walks g r = walks_in (parted g r.run r.part.cuts)

@@ -5,6 +5,7 @@ ghost use Rattle.walk_io.specs.Files.{Told, IfRead};
 ghost use Rattle.walk_model.specs.declared.faults.WalkFault.TheVariants as fault;
 ghost use Rattle.walk_top.specs.Verdicts.{Found, MayBe, fault_of_plan, plan_found, named_plan, job_plan};
 ghost use Rattle.walk_programme.specs.Programme.{plan_of};
+ghost use Rattle.walk_top.specs.ErrorLines.{HasLine};
 ghost use Rattle.walk_top.specs.Stages.{IsRefusal, IsFaultIn};
 ghost use Rattle.walk_top.specs.TextFaults.{IsTextFault};
 ghost use Rattle.walk_top.specs.Jobs.{quick_plan, files_of};
@@ -57,7 +58,8 @@ fn read_text<F: Files>(alloc: Global, files: &mut F, name: &str) -> Result<Vec<u
 
 /// The fault of a programme as one of the whole call.
 fn fault_of_plan(fault: PlanFault) -> WalkFault
-    ensures { result ≡ fault_of_plan fault }
+    ensures fault { result ≡ fault_of_plan fault }
+    ensures lined { HasLine result }
 {
     match fault {
         PlanFault::Memory => WalkFault::Memory,
@@ -70,6 +72,7 @@ fn text_plan(alloc: Global, text: &[u8]) -> Result<Plan, WalkFault>
     requires { length text.now ≤ 65536 }
     ensures plan { IfOk result (λ p. plan_found (plan_of text.now) ≡ Found p) }
     ensures fault { IfErr result (IsRefusal (plan_found (plan_of text.now))) }
+    ensures lined { IfErr result HasLine }
 {
     match read_plan(alloc, text) {
         Ok(plan) => Ok(plan),
@@ -86,6 +89,7 @@ fn read_programme<F: Files>(alloc: Global, files: &mut F, name: &str) -> Result<
       reads = F.faults files.old;
       reads_after = F.faults files.new;
     })) }
+    ensures lined { IfErr result HasLine }
     ensures kept { (n : List ℕ) → F.told files.new n ≡ F.told files.old n }
     ensures later { (n : List ℕ) → F.faults files.old n ≤ F.faults files.new n }
 {
@@ -130,6 +134,7 @@ pub(crate) fn find_plan<F: Files>(
       reads = F.faults files.old;
       reads_after = F.faults files.new;
     })) }
+    ensures lined { IfErr result HasLine }
     ensures kept { (n : List ℕ) → F.told files.new n ≡ F.told files.old n }
     ensures later { (n : List ℕ) → F.faults files.old n ≤ F.faults files.new n }
 {

@@ -1,38 +1,28 @@
 //! What a plan and a graph are refused for together, and the graph made ready to be walked.
 
-ghost use Rattle.std.specs.Prelude.{◌≡◌, ◌≤◌, ◌<◌, ◌⊎◌, ◌+◌, ◌*◌, ◌^◌, nat_lt, length, find, sum, map, All, Some, None, IfOk, IfErr};
+ghost use Rattle.std.specs.Prelude.{◌≡◌, ◌≤◌, ◌<◌, ◌⊎◌, ◌^◌, length, All, IsTrue, Some, None, IfOk, IfErr};
 ghost use Rattle.walk_model.specs.declared.faults.WalkFault.TheVariants as fault;
 ghost use Rattle.walk_top.specs.Limits.{passed_limit, start_fault, count_fault, task_fault};
 ghost use Rattle.walk_top.specs.Readiness.{IsReadyFor};
-ghost use Rattle.walk_top.specs.Reaches.{row_reach};
-ghost use Rattle.walk_top.specs.Outputs.{below};
-ghost use Rattle.walk_top.specs.Starts.{StartsIn, IsRankOf};
-ghost use Rattle.walk_top.specs.OutWeights.{out_weight};
+ghost use Rattle.walk_top.specs.Starts.{IsRankOf};
+ghost use Rattle.walk_model.specs.Walk.{walker_count};
+ghost use Rattle.traveller.specs.Runs.{start_fits};
 
-use crate::grounds::Ground;
 use crate::ranking::rows_of;
-use crate::tours::walkers_of;
-use csr_store::{OutEdge, Rows};
 use std::alloc::Global;
+use traveller::Run;
 use vertex_names::Names;
+use vertex_partition::{PartRows, first_overflow, whole};
+use walk_model::limits::{MAX_PATH_ENTRIES, MAX_VERTICES};
 use walk_model::{Edge, Limit, Plan, StartRule, WalkFault, greatest_factor};
 
-/// How many vertices a graph may have.
-const MOST_VERTICES: u64 = 16777216;
-
-/// How many entries all paths may have together.
-const MOST_ENTRIES: u128 = 134217728;
-
-/// The greatest reach of a vertex: its number of edges, times the sum of their weights, times the greatest factor.
-const MOST_REACH: u128 = 0x4000_0000_0000_0000;
-
-/// A graph that is ready to be walked by a plan: the names of its vertices, its rows with their tables, and the rank of the plan's
-/// own start, or 0 where it has none.
+/// A graph that is ready to be walked: the names of its vertices, what its walkers do, and the part with all its rows and their
+/// tables.
 #[derive(Drop)]
 pub(crate) struct Ready {
     pub names: Names,
-    pub ground: Ground,
-    pub from: u32,
+    pub run: Run,
+    pub part: PartRows,
 }
 
 /// The limit that is passed by a number of vertices, of 16,777,216 at most, or else by the entries of the paths of walkers that
@@ -41,42 +31,57 @@ pub fn check_counts(vertices: u64, walkers: u64, length: u32) -> Option<Limit>
     requires { length ≤ 1048576 }
     ensures { result ≡ passed_limit vertices walkers length }
 {
-    if vertices > MOST_VERTICES {
+    if vertices > MAX_VERTICES {
         return Some(Limit::Vertices);
     }
-    if u128::from(walkers) * (u128::from(length) + 1) > MOST_ENTRIES {
+    if u128::from(walkers) * (u128::from(length) + 1) > u128::from(MAX_PATH_ENTRIES) {
         return Some(Limit::PathEntries);
     }
     None
 }
 
-/// The rank of the plan's own start, or 0 where it has none.
-fn start_rank(rule: StartRule, names: &Names) -> Result<u32, WalkFault>
+/// The rank of the plan's own start, if it has one.
+#[tactic(auto, unfolding(walk_model::specs::Walk::walker_count))]
+fn start_rank(rule: StartRule, names: &Names) -> Result<Option<u32>, WalkFault>
     ensures rank { IfOk result (IsRankOf rule names.now) }
-    ensures starts { IfOk result (StartsIn rule (length names.now)) }
+    ensures fits { IfOk result (λ start. IsTrue (start_fits rule (length names.now) start)) }
+    ensures some { IfOk result (λ _. 0 < walker_count rule (length names.now) → 0 < length names.now) }
     ensures exists { IfOk result (λ _. start_fault rule names.now ≡ None) }
     ensures fault { IfErr result (λ f. start_fault rule names.now ≡ Some f) }
 {
     match rule {
-        StartRule::Each => Ok(0),
+        StartRule::Each => Ok(None),
         StartRule::Spread { walkers } => {
             if 0 < walkers && names.len() == 0 {
                 Err(WalkFault::NoStart { id: None })
             } else {
-                Ok(0)
+                Ok(None)
             }
         }
         StartRule::From { id, .. } => match names.rank(id) {
-            Some(rank) => Ok(rank),
+            Some(rank) => Ok(Some(rank)),
             None => Err(WalkFault::NoStart { id: Some(id) }),
         },
     }
 }
 
-/// The rank of the plan's own start, where its counts are within their limits.
-fn judge_counts(plan: &Plan, names: &Names) -> Result<u32, WalkFault>
+/// The number of walkers over so many vertices.
+#[tactic(auto, unfolding(walk_model::specs::Walk::walker_count))]
+fn walkers_of(rule: StartRule, vertices: u32) -> u32
+    ensures { result ≡ walker_count rule vertices }
+{
+    match rule {
+        StartRule::Each => vertices,
+        StartRule::Spread { walkers } => walkers,
+        StartRule::From { walkers, .. } => walkers,
+    }
+}
+
+/// The rank of the plan's own start, if it has one, where its counts are within their limits.
+fn judge_counts(plan: &Plan, names: &Names) -> Result<Option<u32>, WalkFault>
     ensures rank { IfOk result (IsRankOf plan.now.start names.now) }
-    ensures starts { IfOk result (StartsIn plan.now.start (length names.now)) }
+    ensures fits { IfOk result (λ start. IsTrue (start_fits plan.now.start (length names.now) start)) }
+    ensures some { IfOk result (λ _. 0 < walker_count plan.now.start (length names.now) → 0 < length names.now) }
     ensures none { IfOk result (λ _. count_fault plan.now names.now ≡ None) }
     ensures fault { IfErr result (λ f. count_fault plan.now names.now ≡ Some f) }
 {
@@ -88,64 +93,29 @@ fn judge_counts(plan: &Plan, names: &Names) -> Result<u32, WalkFault>
     }
 }
 
-/// The sum of the static weights of a row.
-fn weight_sum(weighted: bool, row: &[OutEdge]) -> u128
-    requires few { length row.now < 2 ^ 31 }
-    ensures sum { result ≡ sum (map (out_weight weighted) row.now) }
-    ensures bound { result < 2 ^ 95 }
-{
-    if !weighted {
-        return row.len() as u128;
-    }
-    let mut sum = 0u128;
-    for edge in row {
-        sum += u128::from(edge.weight);
-    }
-    sum
-}
-
-/// Whether the reach of a row is above 2^62.
-fn overflows(weighted: bool, row: &[OutEdge], factor: u64) -> bool
-    requires few { length row.now < 2 ^ 31 }
-    ensures { result ≡ nat_lt (2 ^ 62) (length row.now * sum (map (out_weight weighted) row.now) * factor) }
-{
-    let product = row.len() as u128 * weight_sum(weighted, row);
-    match product.checked_mul(u128::from(factor)) {
-        Some(reach) => reach > MOST_REACH,
-        None => true,
-    }
-}
-
-/// The least rank at which a step could overflow, by the greatest factor that a step can meet.
-fn first_overflow(rows: &Rows, weighted: bool, factor: u64) -> Option<u32>
-    ensures { result ≡ find (λ v. nat_lt (2 ^ 62) (row_reach rows.now weighted factor v)) (below rows.now.vertices) }
-{
-    for v in 0..rows.vertices() {
-        if overflows(weighted, rows.row(v), factor) {
-            return Some(v);
-        }
-    }
-    None
-}
-
-/// Makes a graph ready to be walked by a plan.
+/// Makes a graph ready to be walked by a plan with a seed.
 ///
 /// # Errors
 ///
 /// The first of these: a count that passes its limit, a start that is missing, the least vertex at which a step could overflow.
 /// Besides, there may be no memory.
-pub(crate) fn make_ready(alloc: Global, edges: Vec<Edge>, plan: &Plan) -> Result<Ready, WalkFault>
+pub(crate) fn make_ready(
+    alloc: Global,
+    edges: Vec<Edge>,
+    plan: Plan,
+    seed: u64,
+) -> Result<Ready, WalkFault>
     requires few { length edges.items < 2 ^ 31 }
     requires weights { All (λ e. (1 ≤ e.weight) × (e.weight < 2 ^ 62)) edges.items }
-    ensures none { IfOk result (λ _. task_fault plan.now edges.items ≡ None) }
-    ensures ready { IfOk result (IsReadyFor edges.items plan.now) }
-    ensures fault { IfErr result (λ f. (task_fault plan.now edges.items ≡ Some f) ⊎ (f ≡ fault.Memory)) }
+    ensures none { IfOk result (λ _. task_fault plan edges.items ≡ None) }
+    ensures ready { IfOk result (IsReadyFor edges.items plan seed) }
+    ensures fault { IfErr result (λ f. (task_fault plan edges.items ≡ Some f) ⊎ (f ≡ fault.Memory)) }
 {
     let Ok(names) = Names::of(alloc, &edges) else {
         return Err(WalkFault::Memory);
     };
-    let from = match judge_counts(plan, &names) {
-        Ok(from) => from,
+    let start = match judge_counts(&plan, &names) {
+        Ok(start) => start,
         Err(fault) => return Err(fault),
     };
     let Ok(rows) = rows_of(alloc, &names, edges) else {
@@ -155,12 +125,14 @@ pub(crate) fn make_ready(alloc: Global, edges: Vec<Edge>, plan: &Plan) -> Result
         None => {}
         Some(rank) => return Err(WalkFault::Overflow { id: names.id(rank) }),
     }
-    let Ok(ground) = Ground::of(alloc, rows, plan.weighted) else {
+    let Ok(part) = whole(alloc, rows, plan.weighted) else {
         return Err(WalkFault::Memory);
     };
-    Ok(Ready {
-        names,
-        ground,
-        from,
-    })
+    let run = Run {
+        plan,
+        seed,
+        vertices: names.len(),
+        start,
+    };
+    Ok(Ready { names, run, part })
 }

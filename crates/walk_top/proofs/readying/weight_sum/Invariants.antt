@@ -1,8 +1,0 @@
-use Rattle.std.proofs.Common.{◌≡◌, ◌≤◌, ◌*◌, ◌^◌, sum, map, take}
-use Rattle.walk_top.proofs.readying.weight_sum.Given as goal
-
-abbrev pub invariant-loop-edge : goal.invariant-loop-edge
-invariant-loop-edge l = record {
-  sum : l.sum ≡ sum (map (λ e. e.weight) (take l.edge-index l.row));
-  low : l.sum ≤ l.edge-index * 2 ^ 64;
-}

@@ -1,9 +1,0 @@
-use Rattle.std.proofs.Common.{◌<◌, ◌≤◌, ◌^◌, ℕ, length}
-use Rattle.walk_model.specs.Graph.{row}
-use Rattle.walk_top.proofs.tabling.longest_row.Given as goal
-
-abbrev pub invariant-loop-v : goal.invariant-loop-v
-invariant-loop-v l = record {
-  rows : (u : ℕ) → u < l.v → length (row l.rows.edges u) ≤ l.most;
-  few : l.most < 2 ^ 31;
-}
