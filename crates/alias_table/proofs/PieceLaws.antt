@@ -1,5 +1,5 @@
 -- Pieces are items of the row.
-use Rattle.std.proofs.Common.{◌≡◌, ℕ, ◌*◌, ◌/◌, ◌<◌, List, length, sum, refl}
+use Rattle.std.proofs.Common.{ℕ, ◌*◌, ◌/◌, ◌<◌, List, length, sum, refl}
 use Rattle.walk_model.specs.Alias.{piece, own, filler}
 use Rattle.alias_table.specs.Columns.{IsRow}
 use Rattle.alias_table.proofs.TableLemmas.{sum-some, pick-column, pick-either-within}

@@ -19,8 +19,10 @@ pub record IsRow (ws : List ℕ) : Type 0 where
   pub weights : All (λ w. (1 ≤ w) × (w < 2 ^ 62)) ws
 
 -- a table's fields fit together
-pub record IsTable (ws : List ℕ) (whole inverse : ℕ) (columns : Columns) : Type 0 where
+pub record IsTable (ws : List ℕ) (whole inverse places_inverse : ℕ) (columns : Columns) : Type 0 where
   pub row : IsRow ws
   pub whole_is : whole ≡ sum ws
   pub inverse_is : whole ≤ 18446744073709551615 → inverse ≡ 18446744073709551615 / whole
+  pub places_is : length ws * whole ≤ 18446744073709551615 → places_inverse ≡ 18446744073709551615 / (length ws * whole)
+  pub wide_is : 18446744073709551615 < length ws * whole → places_inverse ≡ 0
   pub columns_are : AreColumns ws columns

@@ -25,6 +25,8 @@ pub struct AliasTable {
     whole: u128,
     // what places are divided by the sum with, where that fits 64 bits
     inverse: u64,
+    // what words are divided by the number of all places with, where that fits 64 bits, and else 0
+    places_inverse: u64,
     columns: Columns,
     // of this a pick reads no more than the length
     row: Vec<u64>,
@@ -39,7 +41,7 @@ impl Model for AliasTable {
 
     ghost view = { λ t. t.row.items };
 
-    ghost invariant = { λ t. IsTable t.row.items t.whole t.inverse t.columns };
+    ghost invariant = { λ t. IsTable t.row.items t.whole t.inverse t.places_inverse t.columns };
 }
 
 /// The columns of weights in the form that serves them.
@@ -78,11 +80,13 @@ impl AliasTable {
     {
         let whole = total(weights);
         let inverse = inverse_of(whole);
+        let places_inverse = inverse_of(whole * weights.len() as u128);
         let row = weights.to_vec(alloc)?;
         let columns = columns_of(alloc, weights, whole)?;
         Ok(AliasTable {
             whole,
             inverse,
+            places_inverse,
             columns,
             row,
         })
@@ -170,11 +174,32 @@ impl AliasTable {
         ensures column { result ≡ (word % (length self.now * sum self.now)) / sum self.now }
         ensures within { result < length self.now }
     {
-        if self.whole > 0xffff_ffff_ffff_ffff {
-            return 0;
+        if self.places_inverse == 0 {
+            return self.wide_column_for(word);
         }
-        let part = divide(word, self.whole as u64, self.inverse);
-        (part.0 % self.row.len() as u64) as usize
+        let places = self.row.len() as u64 * self.whole as u64;
+        let place = divide(word, places, self.places_inverse).1;
+        divide(place, self.whole as u64, self.inverse).0 as usize
+    }
+
+    /// The same where the places don't fit 64 bits.
+    #[cold]
+    fn wide_column_for(&self, word: u64) -> usize
+        ensures value { result ≡ (word / sum self.now) % length self.now }
+        ensures column { result ≡ (word % (length self.now * sum self.now)) / sum self.now }
+        ensures within { result < length self.now }
+    {
+        (u128::from(word) / self.whole % self.row.len() as u128) as usize
+    }
+
+    /// What a word leaves when it is divided by the number of all places. It takes no division.
+    #[inline]
+    pub fn rest(&self, word: u64) -> u64
+        requires { length self.now * sum self.now ≤ 18446744073709551615 }
+        ensures { result ≡ word % (length self.now * sum self.now) }
+    {
+        let places = self.row.len() as u64 * self.whole as u64;
+        divide(word, places, self.places_inverse).1
     }
 
     /// The item at a place of all columns: the column's own where its own part reaches the place,

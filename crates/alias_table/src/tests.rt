@@ -48,6 +48,14 @@ fn tally<L: Ledger>(table: &AliasTable, first: u64, blank: Blank) -> [u64; 3]
     counts
 }
 
+/// Asserts what words leave when they are divided by the number of all places, where that fits 64 bits.
+fn expect_rests<R: Abort + AllocGlobal>(rt: &R, table: &AliasTable, rests: &[(u64, u64)]) {
+    assert!(rt; table.sum() * table.len() as u128 <= 0xffff_ffff_ffff_ffff);
+    for (word, rest) in rests {
+        assert_eq!(rt; table.rest(*word), *rest);
+    }
+}
+
 #[test]
 fn small_rows(rt: HostRuntime) -> Result<(), Fail> {
     let table = expect_columns(&rt, &[5, 4, 1], &[8, 10, 3], &[Some(1), None, Some(0)])?;
@@ -55,6 +63,11 @@ fn small_rows(rt: HostRuntime) -> Result<(), Fail> {
     assert_eq!(rt; table.column_for(29), 2);
     assert_eq!(rt; table.column_for(37), 0);
     assert_eq!(rt; table.column_for(18446744073709551615), 1);
+    expect_rests(
+        &rt,
+        &table,
+        &[(29, 29), (30, 0), (37, 7), (18446744073709551615, 15)],
+    );
     let table = expect_columns(&rt, &[2, 2, 2], &[6, 6, 6], &[None, None, None])?;
     assert_eq!(rt; tally::<Brand>(&table, 0, Blank::new(1)), [6, 6, 6]);
     expect_columns(&rt, &[1, 2, 3], &[3, 6, 6], &[Some(2), None, None])?;

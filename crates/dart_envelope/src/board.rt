@@ -16,7 +16,7 @@ use outlier_strip::{strip_area, strip_pick};
 use std::marker::Model;
 use std::sync::ledger::Ledger;
 use walk_model::Steps;
-use walker_stream::fold;
+use walker_stream::{fold, fold_rest};
 
 /// The board of a row: `n` columns of `W` places for each unit of height, where `n` is the row's
 /// length and `W` its sum of weights, up to the greatest factor of the classes other than the return
@@ -179,10 +179,24 @@ impl<'a, C: Classes, const K: usize> Board<'a, C, K> {
         ensures hit { SettlesTo self.now word result }
         ensures fair { HasFairHits self.now }
     {
-        match fold(word, self.places) {
+        match self.place_of(word) {
             None => Verdict::Miss,
             Some(place) if place < self.main => self.candidate(place, steps),
             Some(place) => self.return_edge(place),
+        }
+    }
+
+    /// The place that a word folds to. A board of height 1 without a strip has the places of its table, by
+    /// which words are divided without a division.
+    #[inline]
+    fn place_of(&self, word: u64) -> Option<u64>
+        ensures value { result ≡ fold_word (area (frame self.now)) word }
+        ensures within { IfSome result (λ place. place < area (frame self.now)) }
+    {
+        if self.heights.main == 1 && self.heights.lift == 0 {
+            fold_rest(word, self.places, self.table.rest(word))
+        } else {
+            fold(word, self.places)
         }
     }
 

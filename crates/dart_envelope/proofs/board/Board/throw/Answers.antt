@@ -7,43 +7,33 @@ use Rattle.dart_envelope.proofs.BoardLaws.{verdict-miss, miss-settles, verdict-p
 use Rattle.dart_envelope.proofs.HitLaws.{fair-hits}
 use Rattle.dart_envelope.proofs.board.Board.throw.Goals as goal
 
-pub fold-requires-clause-some : goal.fold-requires-clause-some
-fold-requires-clause-some g c = rw (c.self.invariant.places_is) (area-some _ _ c.self.invariant.board)
-
-pub fold-requires-clause-bound : goal.fold-requires-clause-bound
-fold-requires-clause-bound g c = rw (c.self.invariant.places_is) (area-bound _ _ c.self.invariant.board)
-
 pub returns-in-None-clause-verdict : goal.returns-in-None-clause-verdict
 returns-in-None-clause-verdict g c =
-    let made = rw c.self.view_is at c.self.invariant in
     let b = c.args.self.now in
     let folds : None ≡ fold_word (area (frame b)) c.args.word =
-    sym c.in-None.is ∙ c.fold.ensures.value ∙ ap (λ n. fold_word n c.args.word) made.places_is in
+    sym c.in-None.is ∙ c.place_of.ensures.value in
     verdict-miss b c.args.word folds
 
 pub returns-in-None-clause-cost : goal.returns-in-None-clause-cost
 returns-in-None-clause-cost g c =
-    let made = rw c.self.view_is at c.self.invariant in
     let b = c.args.self.now in
     let folds : None ≡ fold_word (area (frame b)) c.args.word =
-    sym c.in-None.is ∙ c.fold.ensures.value ∙ ap (λ n. fold_word n c.args.word) made.places_is in
+    sym c.in-None.is ∙ c.place_of.ensures.value in
     let none = read-none b _ folds in
     omega (arith, none)
 
 pub returns-in-None-clause-hit : goal.returns-in-None-clause-hit
 returns-in-None-clause-hit g c =
-    let made = rw c.self.view_is at c.self.invariant in
     let b = c.args.self.now in
     let folds : None ≡ fold_word (area (frame b)) c.args.word =
-    sym c.in-None.is ∙ c.fold.ensures.value ∙ ap (λ n. fold_word n c.args.word) made.places_is in
+    sym c.in-None.is ∙ c.place_of.ensures.value in
     miss-settles b c.args.word folds
 
 pub returns-in-Some-clause-verdict : goal.returns-in-Some-clause-verdict
 returns-in-Some-clause-verdict g c =
-    let made = rw c.self.view_is at c.self.invariant in
     let b = c.args.self.now in
     let folds : Some c.in-Some.place ≡ fold_word (area (frame b)) c.args.word =
-    sym c.in-Some.is ∙ c.fold.ensures.value ∙ ap (λ n. fold_word n c.args.word) made.places_is in
+    sym c.in-Some.is ∙ c.place_of.ensures.value in
     c.candidate.ensures.verdict ∙ verdict-place b c.args.word c.in-Some.place folds
 
 pub returns-in-Some-clause-cost : goal.returns-in-Some-clause-cost
@@ -51,25 +41,23 @@ returns-in-Some-clause-cost g c =
     let made = rw c.self.view_is at c.self.invariant in
     let b = c.args.self.now in
     let folds : Some c.in-Some.place ≡ fold_word (area (frame b)) c.args.word =
-    sym c.in-Some.is ∙ c.fold.ensures.value ∙ ap (λ n. fold_word n c.args.word) made.places_is in
+    sym c.in-Some.is ∙ c.place_of.ensures.value in
     let inside : c.in-Some.place < main_area (frame b) = rw made.main_is at c.if-place-self.true in
     let one = read-main b c.in-Some.place _ folds inside in
     omega (arith, one, c.candidate.ensures.cost)
 
 pub returns-in-Some-clause-hit : goal.returns-in-Some-clause-hit
 returns-in-Some-clause-hit g c =
-    let made = rw c.self.view_is at c.self.invariant in
     let b = c.args.self.now in
     let folds : Some c.in-Some.place ≡ fold_word (area (frame b)) c.args.word =
-    sym c.in-Some.is ∙ c.fold.ensures.value ∙ ap (λ n. fold_word n c.args.word) made.places_is in
+    sym c.in-Some.is ∙ c.place_of.ensures.value in
     place-settles b c.args.word c.in-Some.place c.candidate.result folds c.candidate.ensures.settles
 
 pub returns-in-Some-2-clause-verdict : goal.returns-in-Some-2-clause-verdict
 returns-in-Some-2-clause-verdict g c =
-    let made = rw c.self.view_is at c.self.invariant in
     let b = c.args.self.now in
     let folds : Some c.in-Some.place ≡ fold_word (area (frame b)) c.args.word =
-    sym c.in-Some.is ∙ c.fold.ensures.value ∙ ap (λ n. fold_word n c.args.word) made.places_is in
+    sym c.in-Some.is ∙ c.place_of.ensures.value in
     c.return_edge.ensures.verdict ∙ verdict-place b c.args.word c.in-Some.place folds
 
 pub returns-in-Some-2-clause-cost : goal.returns-in-Some-2-clause-cost
@@ -77,17 +65,16 @@ returns-in-Some-2-clause-cost g c =
     let made = rw c.self.view_is at c.self.invariant in
     let b = c.args.self.now in
     let folds : Some c.in-Some.place ≡ fold_word (area (frame b)) c.args.word =
-    sym c.in-Some.is ∙ c.fold.ensures.value ∙ ap (λ n. fold_word n c.args.word) made.places_is in
+    sym c.in-Some.is ∙ c.place_of.ensures.value in
     let past : main_area (frame b) ≤ c.in-Some.place = rw made.main_is at c.if-place-self.false in
     let none = read-strip b c.in-Some.place _ folds past in
     omega (arith, none)
 
 pub returns-in-Some-2-clause-hit : goal.returns-in-Some-2-clause-hit
 returns-in-Some-2-clause-hit g c =
-    let made = rw c.self.view_is at c.self.invariant in
     let b = c.args.self.now in
     let folds : Some c.in-Some.place ≡ fold_word (area (frame b)) c.args.word =
-    sym c.in-Some.is ∙ c.fold.ensures.value ∙ ap (λ n. fold_word n c.args.word) made.places_is in
+    sym c.in-Some.is ∙ c.place_of.ensures.value in
     place-settles b c.args.word c.in-Some.place c.return_edge.result folds c.return_edge.ensures.settles
 
 pub returns-in-None-clause-fair : goal.returns-in-None-clause-fair
