@@ -6,6 +6,7 @@ pub mod FarChoice
 pub mod FarLemmas
 pub mod FromLemmas
 pub mod LocalLemmas
+mod StandingLemmas
 pub mod StepLaws
 mod StepLemmas
 pub mod TellLemmas

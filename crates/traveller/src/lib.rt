@@ -10,6 +10,10 @@ mod lanes;
 mod modes;
 mod ruling;
 mod runs;
+#[cfg(test)]
+mod test_runs;
+#[cfg(test)]
+mod tests;
 mod throwing;
 mod travellers;
 
