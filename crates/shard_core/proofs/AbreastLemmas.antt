@@ -66,7 +66,7 @@ turn-halves run p a b c way decides goes = record {
 }
 
 -- a part is one of the graph of its own edges
-own-part : (p : PartView) → IsPartOf (own_graph p) p
+pub own-part : (p : PartView) → IsPartOf (own_graph p) p
 own-part p = record { vertices = refl; rows = λ v owns. refl; has = λ t x owns. refl }
 
 -- a turn comes to the next state of the walk
@@ -295,11 +295,6 @@ prints-more ps qs rs ws i w low at so_far one =
 pub prints-all : (ps qs : List Print) (ws : List Walker) (i : ℕ) → length ws ≤ i → qs ≡ ps ++ turn_prints (take i ws) → qs ≡ ps ++ turn_prints ws
 prints-all ps qs ws i past so_far = so_far ∙ ap (λ l. ps ++ turn_prints l) (take_all i ws past)
 
--- no walker's prints yet
-pub first-none : (h : Print → ℕ) (g : RowGraph) (run : Run) (p : PartView) → first_heft h g run p 0 ≡ 0
-unfolding first_prints
-first-none h g run p = refl
-
 -- what is true of all walkers, and of one more
 pub all-more : (P : Walker → Type 0) (ws : List Walker) (w : Walker) → All P ws → P w → All P (ws ++ w ∷ [])
 all-more P ws w all one = All-append P ws (w ∷ []) all single
@@ -309,11 +304,11 @@ all-more P ws w all one = All-append P ws (w ∷ []) all single
     single (suc k) d low = absurd (omega arith)
 
 -- one walker more in a lane
-pub hefts-more : (h : Print → ℕ) (g : RowGraph) (run : Run) (p : PartView) (ws : List Walker) (w : Walker) (ps qs os : List Print) (n : ℕ)
-    → sum_by h ps + sum_by (heft h g run p) ws ≡ sum_by h os + first_heft h g run p n
+pub hefts-more : (h : Print → ℕ) (g : RowGraph) (run : Run) (p : PartView) (ws : List Walker) (w : Walker) (ps qs os : List Print) (first n : ℕ)
+    → sum_by h ps + sum_by (heft h g run p) ws + first ≡ sum_by h os + first_heft h g run p n
     → sum_by h qs + heft h g run p w + first_heft h g run p n ≡ sum_by h ps + first_heft h g run p (n + 1)
-    → sum_by h qs + sum_by (heft h g run p) (ws ++ w ∷ []) ≡ sum_by h os + first_heft h g run p (n + 1)
-hefts-more h g run p ws w ps qs os n before one =
+    → sum_by h qs + sum_by (heft h g run p) (ws ++ w ∷ []) + first ≡ sum_by h os + first_heft h g run p (n + 1)
+hefts-more h g run p ws w ps qs os first n before one =
     let both = sum_by-append (heft h g run p) ws (w ∷ []) in
     let single = sum_by-cons (heft h g run p) w [] in
     omega (arith, before, one, both, single)

@@ -1,13 +1,13 @@
 -- How many prints of some walks each walker has.
-use Rattle.std.proofs.Common.{◌≡◌, ◌<◌, ◌≤◌, ◌+◌, ◌^◌, ◌∷◌, [], ℕ, zero, suc, Bool, true, false, List, length, map, set, get_or, refl, ap, sym, ◌∙◌, arith}
-use Rattle.std.specs.Prelude.{◌-◌, ◌==◌, if◌then◌else◌, min, replicate, sum_by, All}
+use Rattle.std.proofs.Common.{◌≡◌, ◌<◌, ◌≤◌, ◌+◌, ◌^◌, ◌∷◌, [], ℕ, zero, suc, Bool, true, false, List, length, set, get_or, refl, ap, sym, ◌∙◌, arith}
+use Rattle.std.specs.Prelude.{◌-◌, ◌==◌, if◌then◌else◌, min, sum_by}
 use Rattle.std.proofs.lemmas.Bool.Decides.{nat_tests}
-use Rattle.std.proofs.lemmas.List.{get_or-set_same, get_or-set_other, get_or-map, length-set, length-map, length-replicate, get_or-replicate}
+use Rattle.std.proofs.lemmas.List.{get_or-set_same, get_or-set_other, length-set}
 use Rattle.std.proofs.lemmas.List.Sums.{sum_by-append, sum_by-cons}
 use Rattle.walk_model.specs.declared.results.Print.{Print}
 use Rattle.walk_model.specs.Prints.{prints_from}
-use Rattle.shard_core.specs.Counted.{count_one, count_all, steps_of}
-use Rattle.shard_core.specs.Gathered.{prints_since, all_prints, AreAllPrints}
+use Rattle.shard_core.specs.Counted.{count_one, count_all}
+use Rattle.shard_core.specs.Gathered.{prints_since}
 
 -- 1 for a print of a walker
 abbrev pub of_walker : ℕ → Print → ℕ
@@ -76,6 +76,17 @@ later-prints i w (walk ∷ walks) low =
     let both = sum_by-append (of_walker i) (prints_from w 0 walk) (prints_since (suc w) walks) in
     omega (arith, own, rest, both)
 
+-- none of walkers with smaller numbers
+pub earlier-prints : (i w : ℕ) (walks : List (List ℕ)) → w + length walks ≤ i → sum_by (of_walker i) (prints_since w walks) ≡ 0
+unfolding prints_since
+earlier-prints i w [] past = refl
+earlier-prints i w (walk ∷ walks) past =
+    let other : (w == i) ≡ false = grind (arith, nat_tests) in
+    let own : sum_by (of_walker i) (prints_from w 0 walk) ≡ 0 = walk-prints i w 0 walk ∙ rw other refl in
+    let rest = earlier-prints i (suc w) walks (omega (arith, past)) in
+    let both = sum_by-append (of_walker i) (prints_from w 0 walk) (prints_since (suc w) walks) in
+    omega (arith, own, rest, both)
+
 -- as many as the walk has entries
 pub walker-prints : (k w : ℕ) (walks : List (List ℕ)) → k < length walks
     → sum_by (of_walker (w + k)) (prints_since w walks) ≡ length (get_or walks k [])
@@ -97,45 +108,9 @@ walker-prints (suc k) w (walk ∷ walks) low =
     omega (arith, own, rest, both)
 
 -- two lists of numbers that agree place by place
-same-places : (xs ys : List ℕ) → length xs ≡ length ys → ((k : ℕ) → k < length xs → get_or xs k 0 ≡ get_or ys k 0) → xs ≡ ys
+pub same-places : (xs ys : List ℕ) → length xs ≡ length ys → ((k : ℕ) → k < length xs → get_or xs k 0 ≡ get_or ys k 0) → xs ≡ ys
 same-places [] [] long each = refl
 same-places [] (y ∷ ys) long each = absurd (omega (arith, long))
 same-places (x ∷ xs) [] long each = absurd (omega (arith, long))
 same-places (x ∷ xs) (y ∷ ys) long each =
     ap (λ z. z ∷ xs) (each 0 (omega arith)) ∙ ap (λ zs. y ∷ zs) (same-places xs ys (omega (arith, long)) (λ k low. each (suc k) (omega (arith, low))))
-
--- a walk has as many entries as its walker has prints, which is one more than its steps
-pub steps-shape : (walks : List (List ℕ)) (ps : List Print) (n : ℕ) → AreAllPrints walks ps → length walks ≡ n
-    → All (λ walk. (1 ≤ length walk) × (length walk ≤ 2 ^ 32)) walks
-    → map length walks ≡ map suc (map steps_of (count_all (replicate n 0) ps))
-steps-shape walks ps n all many sized =
-    same-places (map length walks) (map suc (map steps_of (count_all (replicate n 0) ps))) long each
-  where
-    counts : List ℕ
-    counts = count_all (replicate n 0) ps
-
-    many_counts : length counts ≡ n
-    many_counts = length-count_all (replicate n 0) ps ∙ length-replicate {A = ℕ} n 0
-
-    long : length (map length walks) ≡ length (map suc (map steps_of counts))
-    long = length-map walks length ∙ many ∙ sym many_counts ∙ sym (length-map counts steps_of) ∙ sym (length-map (map steps_of counts) suc)
-
-    each : (k : ℕ) → k < length (map length walks) → get_or (map length walks) k 0 ≡ get_or (map suc (map steps_of counts)) k 0
-    each k low =
-        let left_long = length-map walks length in
-        let here : k < length walks = omega (arith, low, left_long) in
-        let there : k < length counts = omega (arith, here, many, many_counts) in
-        let size = sized k [] here in
-        let mapped = length-map counts steps_of in
-        let start : ◌≡◌ {A = ℕ} (get_or (replicate n 0) k 0) 0 = get_or-replicate n k 0 0 (omega (arith, here, many)) in
-        let shift : k ≡ 0 + k = omega arith in
-        let sum : sum_by (of_walker k) ps ≡ length (get_or walks k []) =
-        all (of_walker k) ∙ ap (λ m. sum_by (of_walker m) (all_prints walks)) shift ∙ walker-prints k 0 walks here in
-        let count : get_or counts k 0 ≡ length (get_or walks k []) =
-        (let made = counted (replicate n 0) ps k (let z = length-replicate {A = ℕ} n 0 in omega (arith, z, here, many)) (omega (arith, start, sum, size.1)) in
-        omega (arith, made, start, sum)) in
-        let left : get_or (map length walks) k 0 ≡ length (get_or walks k []) = get_or-map length walks k [] 0 here in
-        let right : get_or (map suc (map steps_of counts)) k 0 ≡ suc (steps_of (get_or counts k 0)) =
-        get_or-map suc (map steps_of counts) k 0 0 (omega (arith, there, mapped)) ∙ ap suc (get_or-map steps_of counts k 0 0 there) in
-        let same : suc (steps_of (length (get_or walks k []))) ≡ length (get_or walks k []) = omega (arith, size.0, size.1) in
-        left ∙ sym same ∙ ap (λ m. suc (steps_of m)) (sym count) ∙ sym right

@@ -49,7 +49,7 @@ more-place steps i place next low e n =
 pub whole-write : (n : ℕ) (new old : List ℕ) → length new ≡ n → take n (new ++ drop (length new) old) ≡ new
 whole-write n new old h = rw (← h) (take-append_seam new (drop (length new) old))
 
-length-concat : (walks : List (List ℕ)) → length (concat walks) ≡ sum (map length walks)
+pub length-concat : (walks : List (List ℕ)) → length (concat walks) ≡ sum (map length walks)
 length-concat [] = refl
 length-concat (w ∷ ws) =
     omega (arith, length-append w (concat ws), length-concat ws, sum_by-cons (λ x. x) (length w) (map length ws))

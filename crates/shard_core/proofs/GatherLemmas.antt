@@ -1,11 +1,11 @@
 -- Where prints put the entries of walks.
 use Rattle.std.proofs.Common.{◌≡◌, ℕ, suc, ◌+◌, ◌<◌, ◌≤◌, ◌⊎◌, inl, inr, Bool, true, false, List, [], ◌∷◌, ◌++◌, length, get_or, map, refl, sym, ap, ◌∙◌, append_assoc, arith}
-use Rattle.std.specs.Prelude.{if◌then◌else◌, ◌==◌, nat_lt, ◌&&◌, sum_by}
+use Rattle.std.specs.Prelude.{if◌then◌else◌, ◌==◌, nat_lt, ◌&&◌, replicate, sum_by}
 use Rattle.std.specs.List.{concat, slice_set}
 use Rattle.std.proofs.lemmas.Bool.{cases_lt, cases_eq}
 use Rattle.std.proofs.lemmas.Bool.Decides.{nat_tests}
 use Rattle.std.proofs.lemmas.Grind.{same_number_lists, get_or-set_at}
-use Rattle.std.proofs.lemmas.List.{length-append, length-set, get_or-set_other, get_or_at}
+use Rattle.std.proofs.lemmas.List.{length-append, length-replicate, length-set, get_or-set_other, get_or_append_left, get_or_at}
 use Rattle.std.proofs.lemmas.List.Sums.{sum_by-cons, sum_by-append, fold-append}
 use Rattle.walk_model.specs.declared.results.Print.{Print}
 use Rattle.walk_model.specs.Prints.{prints_from}
@@ -191,3 +191,43 @@ gathered walks prints entries all long =
     let some : 1 ≤ sum_by (hit_by begins end k) prints =
     rw (all (hit_by begins end k)) (all-hits (λ i. get_or begins i end) k 0 0 walks stand (omega arith) (omega (arith, within))) in
     put_all-right begins (concat walks) entries end prints k refl (sym long) right (inr some)))
+
+-- prints of walks behind others, put at their places, make those walks behind the entries of the others
+pub gathered-behind : (front begun : List ℕ) (walks : List (List ℕ)) (prints : List Print) (begins entries : List ℕ) (n : ℕ)
+    → ((h : Print → ℕ) → sum_by h prints ≡ sum_by h (prints_since (length begun) walks))
+    → begins ≡ begun ++ begins_from (length front) (map length walks) → entries ≡ front ++ replicate n 0 → n ≡ length (concat walks)
+    → put_all begins entries prints ≡ front ++ concat walks
+gathered-behind front begun walks prints begins entries n all b e many =
+    same_number_lists (put_all begins entries prints) target (length-put_all begins entries prints ∙ long) (λ k low.
+    (let within : k < length target = omega (arith, low, length-put_all begins entries prints, long) in
+    put_all-right begins target entries end prints k refl (sym long) right (either k within)))
+  where
+    target : List ℕ
+    target = front ++ concat walks
+
+    end : ℕ
+    end = length entries
+
+    sizes : length target ≡ length front + length (concat walks)
+    sizes = length-append front (concat walks)
+
+    long : length entries ≡ length target
+    long = ap length e ∙ length-append front (replicate n 0) ∙ (let zeros = length-replicate {A = ℕ} n 0 in omega (arith, zeros, many, sizes))
+
+    stand : Stand (λ i. get_or begins i end) (length front) (length begun) walks
+    stand = stand-begins begins begun end (length front) walks b
+
+    right : sum_by (miss_by begins end target) prints ≡ 0
+    right =
+        all (miss_by begins end target)
+        ∙ all-misses (λ i. get_or begins i end) target front (length front) (length begun) walks refl refl stand
+
+    either : (k : ℕ) → k < length target → (get_or entries k 0 ≡ get_or target k 0) ⊎ (1 ≤ sum_by (hit_by begins end k) prints)
+    either k within = elim (cases_lt k (length front)) [
+      | inl before ↦
+          inl (ap (λ (l : List ℕ). get_or l k 0) e ∙ get_or_append_left front (replicate n 0) 0 k before
+          ∙ sym (get_or_append_left front (concat walks) 0 k before))
+      | inr behind ↦
+          inr (rw (all (hit_by begins end k))
+          (all-hits (λ i. get_or begins i end) k (length front) (length begun) walks stand behind (omega (arith, within, sizes))))
+    ]

@@ -5,3 +5,4 @@ pub mod EachLemmas
 pub mod AbreastLemmas
 pub mod CountLemmas
 pub mod WholeLemmas
+pub mod BatchLemmas

@@ -1,8 +1,6 @@
 -- All walks of a run, by their prints.
 use Rattle.std.proofs.Common.{◌≡◌, ◌<◌, ◌≤◌, ◌+◌, ◌^◌, ◌∷◌, [], ◌++◌, ℕ, zero, suc, List, length, map, append_assoc, Option, Some, None, refl, ap, sym, ◌∙◌, arith}
-use Rattle.std.specs.Prelude.{All, sum_by}
 use Rattle.std.proofs.lemmas.List.{append-nil, map-append, length-append, length-map}
-use Rattle.walk_model.specs.declared.results.Print.{Print}
 use Rattle.walk_model.specs.declared.states.State.{State}
 use Rattle.walk_model.specs.Course.{Course}
 use Rattle.walk_model.specs.Numbers.{below}
@@ -10,8 +8,7 @@ use Rattle.walk_model.specs.Prints.{prints_from}
 use Rattle.walk_model.specs.Walk.{entry_and, entries_after, first_state, next_state}
 use Rattle.traveller.specs.PartedRuns.{PartedRun, journey_in, walk_in}
 use Rattle.shard_core.specs.Abreast.{first_prints}
-use Rattle.shard_core.specs.Gathered.{prints_since, all_prints, AreAllPrints}
-use Rattle.shard_core.specs.Walks.{walks_in}
+use Rattle.shard_core.specs.Gathered.{prints_since, all_prints}
 
 -- the prints of one walk more
 since-more : (w : ℕ) (walks : List (List ℕ)) (walk : List ℕ)
@@ -26,7 +23,7 @@ since-more w (x ∷ xs) walk =
     ∙ sym (append_assoc (prints_from w 0 x) (prints_since (suc w) xs) (prints_from (suc w + length xs) 0 walk))
     ∙ ap (λ n. (prints_from w 0 x ++ prints_since (suc w) xs) ++ prints_from n 0 walk) shift
 
-length-below : (n : ℕ) → length (below n) ≡ n
+pub length-below : (n : ℕ) → length (below n) ≡ n
 unfolding below
 length-below zero = refl
 length-below (suc n) = length-append (below n) (n ∷ []) ∙ (let rest = length-below n in omega (arith, rest))
@@ -52,26 +49,7 @@ unfolding entries_after
 entries-most zero c s = omega arith
 entries-most (suc n) c s = entry-most n (entries_after n c) (next_state c s) (entries-most n c)
 
--- there are as many walks as walkers, each with an entry and not too many
-pub walks-many : (g : PartedRun) → length (walks_in g) ≡ g.walkers
-unfolding walks_in
-walks-many g = length-map (below g.walkers) (walk_in g) ∙ length-below g.walkers
-
-walk-sized : (g : PartedRun) (i : ℕ) → g.plan.length < 2 ^ 32 → (1 ≤ length (walk_in g i)) × (length (walk_in g i) ≤ 2 ^ 32)
+-- a walk has an entry, and not too many
+pub walk-sized : (g : PartedRun) (i : ℕ) → g.plan.length < 2 ^ 32 → (1 ≤ length (walk_in g i)) × (length (walk_in g i) ≤ 2 ^ 32)
 walk-sized g i short =
     (omega arith, (let most = entries-most g.plan.length (journey_in g i).course (first_state (journey_in g i).course.start) in omega (arith, most, short)))
-
-pub walks-sized : (g : PartedRun) → g.plan.length < 2 ^ 32 → All (λ walk. (1 ≤ length walk) × (length walk ≤ 2 ^ 32)) (walks_in g)
-unfolding walks_in
-walks-sized g short = over (below g.walkers)
-  where
-    over : (ns : List ℕ) → All (λ walk. (1 ≤ length walk) × (length walk ≤ 2 ^ 32)) (map (walk_in g) ns)
-    over [] k d low = absurd (omega (arith, low))
-    over (n ∷ ns) zero d low = walk-sized g n short
-    over (n ∷ ns) (suc k) d low = over ns k d (omega (arith, low))
-
--- prints that weigh what those of the walkers do are all prints of the walks
-pub prints-all_walks : (g : PartedRun) (ps : List Print) → ((h : Print → ℕ) → sum_by h ps ≡ sum_by h (first_prints g g.walkers))
-    → AreAllPrints (walks_in g) ps
-unfolding walks_in
-prints-all_walks g ps weigh = λ h. weigh h ∙ ap (sum_by h) (first-all g g.walkers)

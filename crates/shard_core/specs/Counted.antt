@@ -10,7 +10,3 @@ count_one counts p = slice_set counts p.walker (min (slice_index counts p.walker
 -- after several prints
 abbrev pub count_all : List ℕ → List Print → List ℕ
 count_all counts prints = fold count_one counts prints
-
--- the steps of a walker with so many prints, as far as 32 bits go
-abbrev pub steps_of : ℕ → ℕ
-steps_of count = min (count - 1) (2 ^ 32 - 1)

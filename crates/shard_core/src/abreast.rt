@@ -18,7 +18,7 @@ use traveller::{Lane, Run, Traveller, WalkPart};
 use walk_model::{Memory, Print, Rule, Steps};
 
 /// How many travellers go abreast.
-const ABREAST: usize = 16;
+pub(crate) const ABREAST: usize = 16;
 
 /// Each traveller reads the record of its table. Nothing here waits for another's record.
 fn arrive_each(lanes: &mut [Lane], here: &WalkPart<'_>)
@@ -184,56 +184,65 @@ fn begin_next(here: &WalkPart<'_>, number: u64, prints: &mut Prints) -> Travelle
     traveller
 }
 
-/// The first travellers in lanes, as many as go abreast.
+/// The travellers from one number up to another in lanes, at most as many as go abreast.
 fn first_lanes(
     alloc: Global,
     here: &WalkPart<'_>,
     first: u64,
+    next: u64,
     prints: &mut Prints,
 ) -> Result<Vec<Lane>, Memory>
     requires all { OwnsAll here.now.part }
-    requires first { first ≤ walker_count here.now.run.plan.start here.now.run.vertices }
-    requires some { 0 < first → 0 < here.now.run.vertices }
-    requires room { first ≤ prints.old.room }
+    requires rising { first ≤ next }
+    requires next { next ≤ walker_count here.now.run.plan.start here.now.run.vertices }
+    requires some { first < next → 0 < here.now.run.vertices }
+    requires room { next ≤ prints.old.room + first }
     ensures on_way { IfOk result (λ ls. All (IsOnWay here.now.run here.now.part) ls.items) }
-    ensures count { IfOk result (λ ls. length ls.items ≡ first) }
+    ensures count { IfOk result (λ ls. length ls.items + first ≡ next) }
     ensures hefts { IfOk result (λ ls. (h : ThePrint → ℕ) (g : RowGraph) → IsPartOf g here.now.part
-        → sum_by h prints.new.prints + sum_by (heft h g here.now.run here.now.part) ls.items
-        ≡ sum_by h prints.old.prints + first_heft h g here.now.run here.now.part first) }
+        → sum_by h prints.new.prints + sum_by (heft h g here.now.run here.now.part) ls.items + first_heft h g here.now.run here.now.part first
+        ≡ sum_by h prints.old.prints + first_heft h g here.now.run here.now.part next) }
 {
     let mut lanes = Vec::with_capacity(alloc, ABREAST)?;
-    for number in 0..first {
+    for number in first..next {
         let traveller = begin_next(here, number, prints);
         lanes.push(Lane::of(here.run(), traveller))?;
     }
     Ok(lanes)
 }
 
-/// Those whose walks have ended make place for the next travellers, from a number on, as long as there are
-/// any. The number of the next one is the result.
-fn refresh(lanes: &mut Vec<Lane>, here: &WalkPart<'_>, next: u64, prints: &mut Prints) -> u64
+/// Those whose walks have ended make place for the next travellers, from one number up to another, as long
+/// as there are any. The number of the next one is the result.
+fn refresh(
+    lanes: &mut Vec<Lane>,
+    here: &WalkPart<'_>,
+    next: u64,
+    end: u64,
+    prints: &mut Prints,
+) -> u64
     requires all { OwnsAll here.now.part }
     requires between { All (IsBetween here.now.run here.now.part) lanes.old.items }
-    requires next { next ≤ walker_count here.now.run.plan.start here.now.run.vertices }
-    requires some { next < walker_count here.now.run.plan.start here.now.run.vertices → 0 < here.now.run.vertices }
+    requires next { next ≤ end }
+    requires end { end ≤ walker_count here.now.run.plan.start here.now.run.vertices }
+    requires some { next < end → 0 < here.now.run.vertices }
     requires room { length lanes.old.items ≤ prints.old.room }
     ensures on_way { All (IsOnWay here.now.run here.now.part) lanes.new.items }
-    ensures next { result ≤ walker_count here.now.run.plan.start here.now.run.vertices }
+    ensures next { result ≤ end }
+    ensures later { next ≤ result }
     ensures few { length lanes.new.items ≤ length lanes.old.items }
-    ensures full { result < walker_count here.now.run.plan.start here.now.run.vertices → length lanes.new.items ≡ length lanes.old.items }
+    ensures full { result < end → length lanes.new.items ≡ length lanes.old.items }
     ensures hefts { (h : ThePrint → ℕ) (g : RowGraph) → IsPartOf g here.now.part
         → sum_by h prints.new.prints + sum_by (heft h g here.now.run here.now.part) lanes.new.items + first_heft h g here.now.run here.now.part next
         ≡ sum_by h prints.old.prints + sum_by (heft h g here.now.run here.now.part) lanes.old.items + first_heft h g here.now.run here.now.part result }
-    ensures left { sum_by turns_left lanes.new.items + (walker_count here.now.run.plan.start here.now.run.vertices - result) * (here.now.run.plan.length + 2)
-        ≤ sum_by turns_left lanes.old.items + (walker_count here.now.run.plan.start here.now.run.vertices - next) * (here.now.run.plan.length + 2) }
+    ensures left { sum_by turns_left lanes.new.items + (end - result) * (here.now.run.plan.length + 2)
+        ≤ sum_by turns_left lanes.old.items + (end - next) * (here.now.run.plan.length + 2) }
 {
-    let count = here.run().walkers();
     let mut next = next;
     let mut k = 0usize;
     'refreshing: while k < lanes.len() {
         if !lanes[k].has_ended() {
             k += 1;
-        } else if next < count {
+        } else if next < end {
             let traveller = begin_next(here, next, prints);
             lanes[k].take(here.run(), traveller);
             next += 1;
@@ -245,8 +254,8 @@ fn refresh(lanes: &mut Vec<Lane>, here: &WalkPart<'_>, next: u64, prints: &mut P
     next
 }
 
-/// Walks all travellers of a run to their ends, on a part that owns all vertices, several abreast, and keeps
-/// the prints of their walks.
+/// Walks the travellers of a run from one number up to another to their ends, on a part that owns all
+/// vertices, several abreast, and keeps the prints of their walks.
 ///
 /// # Errors
 ///
@@ -254,23 +263,26 @@ fn refresh(lanes: &mut Vec<Lane>, here: &WalkPart<'_>, next: u64, prints: &mut P
 pub fn walk_abreast<L: Ledger>(
     alloc: Global,
     here: &WalkPart<'_>,
+    first: u64,
+    end: u64,
     prints: &mut Prints,
     steps: &mut Steps<L>,
 ) -> Result<(), Memory>
     requires all { OwnsAll here.now.part }
-    requires some { 0 < walker_count here.now.run.plan.start here.now.run.vertices → 0 < here.now.run.vertices }
+    requires rising { first ≤ end }
+    requires end { end ≤ walker_count here.now.run.plan.start here.now.run.vertices }
+    requires some { first < end → 0 < here.now.run.vertices }
     ensures { IfOk result (λ _. (h : ThePrint → ℕ) (g : RowGraph) → IsPartOf g here.now.part
-        → sum_by h prints.new.prints
-        ≡ sum_by h prints.old.prints + first_heft h g here.now.run here.now.part (walker_count here.now.run.plan.start here.now.run.vertices)) }
+        → sum_by h prints.new.prints + first_heft h g here.now.run here.now.part first
+        ≡ sum_by h prints.old.prints + first_heft h g here.now.run here.now.part end) }
 {
-    let count = here.run().walkers();
     prints.make_room(alloc, ABREAST)?;
-    let mut next = count.min(ABREAST as u64);
-    let mut lanes = first_lanes(alloc, here, next, prints)?;
+    let mut next = first + (end - first).min(ABREAST as u64);
+    let mut lanes = first_lanes(alloc, here, first, next, prints)?;
     'walking: while lanes.len() > 0 {
         prints.make_room(alloc, 2 * ABREAST)?;
         turn_all(&mut lanes, here, prints, steps);
-        next = refresh(&mut lanes, here, next, prints);
+        next = refresh(&mut lanes, here, next, end, prints);
     }
     Ok(())
 }

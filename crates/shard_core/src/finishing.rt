@@ -42,7 +42,7 @@ fn place_of_print(begins: &[u64], end: usize, print: &Print) -> usize
 }
 
 /// Puts each print of a piece at its place.
-fn put_piece(entries: &mut [u32], begins: &[u64], piece: &[Print])
+pub(crate) fn put_piece(entries: &mut [u32], begins: &[u64], piece: &[Print])
     requires { All (λ b. b < length entries.old) begins.now }
     ensures { entries.new ≡ put_all begins.now entries.old piece.now }
 {

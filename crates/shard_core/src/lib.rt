@@ -4,6 +4,7 @@
 mod abreast;
 mod counting;
 mod finishing;
+mod gathering;
 mod prints;
 #[cfg(test)]
 mod tests;

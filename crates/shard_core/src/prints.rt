@@ -111,6 +111,15 @@ impl Prints {
         self.last.push_reserved(print);
     }
 
+    /// Takes all prints out. The room of the last piece stays for the next ones.
+    pub fn clear(&mut self)
+        ensures { self.new.prints ≡ [] }
+    {
+        self.full.clear();
+        self.last.clear();
+        self.before = 0;
+    }
+
     /// How many prints there are.
     pub fn len(&self) -> u64
         ensures { result ≡ length self.now.prints }

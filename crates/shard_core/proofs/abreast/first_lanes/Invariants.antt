@@ -9,9 +9,10 @@ use Rattle.shard_core.proofs.abreast.first_lanes.Given as goal
 abbrev pub invariant-loop-number : goal.invariant-loop-number
 invariant-loop-number l = record {
   on_way : All (IsOnWay l.here.run l.here.part) l.lanes.items;
-  count : length l.lanes.items ≡ l.number;
-  room : l.fn.first ≤ l.prints.room + l.number;
+  since : l.fn.first ≤ l.number;
+  count : length l.lanes.items + l.fn.first ≡ l.number;
+  room : l.fn.next ≤ l.prints.room + l.number;
   hefts : (h : Print → ℕ) (g : RowGraph) → IsPartOf g l.here.part
-      → sum_by h l.prints.prints + sum_by (heft h g l.here.run l.here.part) l.lanes.items
+      → sum_by h l.prints.prints + sum_by (heft h g l.here.run l.here.part) l.lanes.items + first_heft h g l.here.run l.here.part l.fn.first
       ≡ sum_by h l.initial.prints.prints + first_heft h g l.here.run l.here.part l.number;
 }

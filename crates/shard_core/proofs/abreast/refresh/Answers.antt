@@ -57,7 +57,7 @@ refreshing-preserved c =
       room = omega (arith, inv.room, less);
       next = inv.next;
       later = inv.later;
-      full = λ more. absurd (omega (arith, more, c.if-next-count.false));
+      full = λ more. absurd (omega (arith, more, c.if-next-end.false));
       hefts = λ h graph of. hefts-removed h graph run part ws k w _ _ _ low over (inv.hefts h graph of);
       left = lefts-removed ws k w _ _ low over inv.left;
     })

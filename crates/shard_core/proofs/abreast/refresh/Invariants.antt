@@ -14,14 +14,14 @@ invariant-refreshing l = record {
   between : All (IsBetween l.here.run l.here.part) l.lanes.items;
   few : length l.lanes.items ≤ length l.initial.lanes.items;
   room : length l.lanes.items ≤ l.prints.room + l.k;
-  next : l.next ≤ l.count;
+  next : l.next ≤ l.fn.end;
   later : l.initial.next ≤ l.next;
-  full : l.next < l.count → length l.lanes.items ≡ length l.initial.lanes.items;
+  full : l.next < l.fn.end → length l.lanes.items ≡ length l.initial.lanes.items;
   hefts : (h : Print → ℕ) (g : RowGraph) → IsPartOf g l.here.part
       → sum_by h l.prints.prints + sum_by (heft h g l.here.run l.here.part) l.lanes.items + first_heft h g l.here.run l.here.part l.initial.next
       ≡ sum_by h l.initial.prints.prints + sum_by (heft h g l.here.run l.here.part) l.initial.lanes.items + first_heft h g l.here.run l.here.part l.next;
-  left : sum_by turns_left l.lanes.items + (l.count - l.next) * (l.here.run.plan.length + 2)
-      ≤ sum_by turns_left l.initial.lanes.items + (l.count - l.initial.next) * (l.here.run.plan.length + 2);
+  left : sum_by turns_left l.lanes.items + (l.fn.end - l.next) * (l.here.run.plan.length + 2)
+      ≤ sum_by turns_left l.initial.lanes.items + (l.fn.end - l.initial.next) * (l.here.run.plan.length + 2);
 }
 
 abbrev pub decreases-refreshing : goal.decreases-refreshing
