@@ -353,7 +353,8 @@ const TANGLE: [Line; 14] = [
     (3, 4, 1, 1),
 ];
 
-/// Walks of which each step is known.
+/// Walks on a path: until a row is empty, the length is reached, a coin falls or no factor is above 0, and
+/// walks that are back at their starts with each step.
 #[test]
 fn walks_by_example(rt: HostRuntime) -> Result<(), Fail> {
     let cuts = Cuts::none(rt.alloc(), 3);
@@ -361,59 +362,44 @@ fn walks_by_example(rt: HostRuntime) -> Result<(), Fail> {
     let none = Choice::Scheme(9, 9);
     let turns = Choice::Scheme(4, 5);
     let near = Choice::Node2vec((1, 4), (4, 1));
-    for (lines, case, number, walk) in [
-        // until a row is empty, until the length, and until a coin falls, which comes before a restart
+    for (case, number, walk) in [
+        (case(10, 32, NEVER, NEVER, plain), 0, [0, 1, 2].as_slice()),
+        (case(10, 32, NEVER, NEVER, plain), 2, &[2]),
+        (case(1, 32, NEVER, NEVER, plain), 0, &[0, 1]),
+        (case(0, 32, NEVER, NEVER, plain), 0, &[0]),
+        (case(10, 32, ALWAYS, NEVER, plain), 0, &[0]),
+        // the coin of the end comes before that of a restart
+        (case(10, 32, ALWAYS, ALWAYS, near), 1, &[1]),
+        (case(3, 32, NEVER, ALWAYS, plain), 1, &[1, 1, 1, 1]),
+        (case(2, 32, NEVER, ALWAYS, turns), 2, &[2, 2, 2]),
+        (case(10, 32, NEVER, NEVER, none), 0, &[0]),
+        (case(10, 0, NEVER, NEVER, none), 0, &[0]),
+    ] {
+        expect_walk(&rt, &PATH, case, &cuts, &LEADS, number, walk)?;
+    }
+    Ok(())
+}
+
+/// Walks to and fro along the only edge of each row, by darts and by the scan.
+#[test]
+fn walks_along_only_edges(rt: HostRuntime) -> Result<(), Fail> {
+    let cuts = Cuts::none(rt.alloc(), 3);
+    let plain = Choice::Plain;
+    let turns = Choice::Scheme(4, 5);
+    let near = Choice::Node2vec((1, 4), (4, 1));
+    for (case, number, walk) in [
         (
-            PATH.as_slice(),
-            case(10, 32, NEVER, NEVER, plain),
-            0,
-            [0, 1, 2].as_slice(),
-        ),
-        (&PATH, case(10, 32, NEVER, NEVER, plain), 2, &[2]),
-        (&PATH, case(1, 32, NEVER, NEVER, plain), 0, &[0, 1]),
-        (&PATH, case(0, 32, NEVER, NEVER, plain), 0, &[0]),
-        (&PATH, case(10, 32, ALWAYS, NEVER, plain), 0, &[0]),
-        (&PATH, case(10, 32, ALWAYS, ALWAYS, near), 1, &[1]),
-        // back at the start with each step
-        (&PATH, case(3, 32, NEVER, ALWAYS, plain), 1, &[1, 1, 1, 1]),
-        (&PATH, case(2, 32, NEVER, ALWAYS, turns), 2, &[2, 2, 2]),
-        // every factor of a row is 0
-        (&PATH, case(10, 32, NEVER, NEVER, none), 0, &[0]),
-        (&PATH, case(10, 0, NEVER, NEVER, none), 0, &[0]),
-        // the only edge of a row, by darts and by the scan
-        (
-            &SHUTTLE,
             case(4, 32, NEVER, NEVER, plain),
             0,
-            &[0, 1, 0, 1, 0],
+            [0, 1, 0, 1, 0].as_slice(),
         ),
-        (
-            &SHUTTLE,
-            case(4, 0, NEVER, NEVER, plain),
-            1,
-            &[1, 0, 1, 0, 1],
-        ),
-        (
-            &SHUTTLE,
-            case(4, 32, NEVER, NEVER, turns),
-            0,
-            &[0, 1, 0, 1, 0],
-        ),
-        (&SHUTTLE, case(4, 0, NEVER, NEVER, turns), 2, &[2, 0]),
-        (
-            &SHUTTLE,
-            case(4, 32, NEVER, NEVER, near),
-            0,
-            &[0, 1, 0, 1, 0],
-        ),
-        (
-            &SHUTTLE,
-            case(4, 0, NEVER, NEVER, near),
-            2,
-            &[2, 0, 1, 0, 1],
-        ),
+        (case(4, 0, NEVER, NEVER, plain), 1, &[1, 0, 1, 0, 1]),
+        (case(4, 32, NEVER, NEVER, turns), 0, &[0, 1, 0, 1, 0]),
+        (case(4, 0, NEVER, NEVER, turns), 2, &[2, 0]),
+        (case(4, 32, NEVER, NEVER, near), 0, &[0, 1, 0, 1, 0]),
+        (case(4, 0, NEVER, NEVER, near), 2, &[2, 0, 1, 0, 1]),
     ] {
-        expect_walk(&rt, lines, case, &cuts, &LEADS, number, walk)?;
+        expect_walk(&rt, &SHUTTLE, case, &cuts, &LEADS, number, walk)?;
     }
     Ok(())
 }
