@@ -1,5 +1,5 @@
 -- What a verdict says of a dart on the board of a row, whatever classes its edges may have.
-use Rattle.std.proofs.Common.{◌≡◌, ℕ, ◌+◌, ◌-◌, ◌/◌, ◌%◌, ◌<◌, ◌≤◌, Bool, true, false, List, length, get_or, map, drop, length-drop, refl, arith, ap, sym, Some, None}
+use Rattle.std.proofs.Common.{◌≡◌, ℕ, ◌+◌, ◌-◌, ◌/◌, ◌%◌, ◌<◌, ◌≤◌, Bool, true, false, List, length, get_or, map, drop, length-drop, refl, arith, ap, sym, ◌∙◌, subst, Some, None}
 use Rattle.std.specs.Prelude.{Option, nat_lt, if◌then◌else◌, slice_index, slice_get}
 use Rattle.std.proofs.lemmas.Bool.Decides.{nat_tests}
 use Rattle.std.proofs.lemmas.Option.{get_or_from_slice_get}
@@ -11,7 +11,7 @@ use Rattle.walk_model.specs.Dart.{back_weights, main_area, area, edge_at, taken_
 use Rattle.factor_table.specs.Factors.{least_of}
 use Rattle.factor_table.proofs.FactorLaws.{least-below}
 use Rattle.dart_envelope.specs.ClassBoards.{ClassBoard, frame, height, low, first_other, known_at, MayHave}
-use Rattle.dart_envelope.specs.Verdicts.{judged, verdict_at, verdict_of, settled, columns_read, SettlesAt, SettlesTo}
+use Rattle.dart_envelope.specs.Verdicts.{judged, verdict_at, verdict_of, settled, columns_read, SettlesAt, SettlesTo, IsVain, IsElseVain}
 use Rattle.dart_envelope.specs.declared.verdict.Verdict.{Verdict}
 use Rattle.dart_envelope.specs.declared.verdict.Verdict.TheVariants.{Miss, Take, Turned, Need}
 
@@ -147,3 +147,24 @@ read-main b x o folds inside = rw (← folds, lt-true x (main_area (frame b)) in
 pub read-strip : (b : ClassBoard) (x : ℕ) (o : Option ℕ) → Some x ≡ o → main_area (frame b) ≤ x → columns_read b o ≡ 0
 unfolding columns_read
 read-strip b x o folds past = rw (← folds, lt-false x (main_area (frame b)) past) refl
+
+not-none : (edge : ℕ) → Some edge ≡ None → ⊥
+not-none edge none =
+    let P : Option ℕ → Type 0 = λ o. elim o as (λ _. Type 0) [ None ↦ ⊥ | Some v ↦ Unit {0} ] in subst P none tt
+
+-- a verdict that settles to no edge is that of a dart in vain
+settled-vain : (b : ClassBoard) (classes : List ℕ) (v : Verdict) → settled b classes v ≡ None → IsVain b classes v
+unfolding settled
+settled-vain b classes Miss none = tt
+settled-vain b classes (Take edge) none = not-none edge none
+settled-vain b classes Turned none = tt
+settled-vain b classes (Need edge h) none = cases (nat_lt h (slice_index b.factors (slice_index classes edge))) refl none
+  where
+    cases : (test : Bool) → nat_lt h (slice_index b.factors (slice_index classes edge)) ≡ test
+        → (if test then Some edge else None) ≡ None → slice_index b.factors (slice_index classes edge) ≤ h
+    cases true is hits = absurd (not-none edge hits)
+    cases false is hits = grind (arith, nat_tests)
+
+-- a verdict that settles to the edge that the dart hits is that of a dart in vain where it hits none
+pub settles-vain : (b : ClassBoard) (w : ℕ) (v : Verdict) → SettlesTo b w v → IsElseVain b w v
+settles-vain b w v settles = λ classes suits none. settled-vain b classes v (sym (settles classes suits) ∙ none)

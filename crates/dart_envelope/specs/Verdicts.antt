@@ -1,5 +1,5 @@
 -- What a dart finds where the class of an edge may be unknown.
-use Rattle.std.specs.Prelude.{◌≡◌, ℕ, ◌+◌, ◌-◌, ◌/◌, ◌%◌, ◌<◌, ⊤, nat_lt, if◌then◌else◌, List, length, slice_index, Option, Some, None}
+use Rattle.std.specs.Prelude.{◌≡◌, ℕ, ◌+◌, ◌-◌, ◌/◌, ◌%◌, ◌<◌, ◌≤◌, ⊤, nat_lt, if◌then◌else◌, List, length, slice_index, Option, Some, None}
 use Rattle.walk_model.specs.Words.{fold_word}
 use Rattle.walk_model.specs.Lists.{first_above}
 use Rattle.walk_model.specs.Alias.{piece}
@@ -58,3 +58,14 @@ SettlesAt b x verdict = (classes : List ℕ) → Suits b classes → edge_at (bo
 -- whatever classes the edges may have, the verdict settles to the edge that the dart hits
 abbrev pub SettlesTo : ClassBoard → ℕ → Verdict → Type 0
 SettlesTo b w verdict = (classes : List ℕ) → Suits b classes → hit (board_by b classes) w ≡ settled b classes verdict
+
+-- a dart that takes no edge: it misses the board, or its edge is rejected at its height
+abbrev pub IsVain : ClassBoard → List ℕ → Verdict → Type 0
+IsVain b classes Miss = ⊤
+IsVain b classes (Take edge) = ⊥
+IsVain b classes Turned = ⊤
+IsVain b classes (Need edge height) = slice_index b.factors (slice_index classes edge) ≤ height
+
+-- whatever classes the edges may have, a dart that hits no edge is in vain by this verdict
+abbrev pub IsElseVain : ClassBoard → ℕ → Verdict → Type 0
+IsElseVain b w verdict = (classes : List ℕ) → Suits b classes → hit (board_by b classes) w ≡ None → IsVain b classes verdict

@@ -6,8 +6,8 @@ ghost use Rattle.walk_model.specs.Dart.{main_area, area};
 ghost use Rattle.factor_table.specs.Factors.{greatest_of, least_of};
 ghost use Rattle.dart_envelope.specs.ClassBoards.{ClassBoard, class_board, first_other, run_weights, rise, frame, known_at};
 ghost use Rattle.dart_envelope.specs.Conditions.{HaveFactors, IsReturnRun};
-ghost use Rattle.dart_envelope.specs.Hits.{HasFairHits};
-ghost use Rattle.dart_envelope.specs.Verdicts.{judged, verdict_at, verdict_of, columns_read, IsWithin, SettlesAt, SettlesTo};
+ghost use Rattle.dart_envelope.specs.Hits.{HasFairHits, HasFairHitsOf};
+ghost use Rattle.dart_envelope.specs.Verdicts.{judged, verdict_at, verdict_of, columns_read, IsWithin, SettlesAt, SettlesTo, IsElseVain};
 
 use crate::verdict::Verdict;
 use alias_table::AliasTable;
@@ -165,6 +165,7 @@ impl<'a, C: Classes, const K: usize> Board<'a, C, K> {
         ensures value { result ≡ area (frame self.now) }
         ensures some { 1 ≤ result }
         ensures bound { result ≤ 2 ^ 62 }
+        ensures fair { HasFairHitsOf self.now result }
     {
         self.places
     }
@@ -177,6 +178,7 @@ impl<'a, C: Classes, const K: usize> Board<'a, C, K> {
         ensures within { IsWithin (length self.now.weights) result }
         ensures cost { steps.new ≡ steps.old + columns_read self.now (fold_word (area (frame self.now)) word) }
         ensures hit { SettlesTo self.now word result }
+        ensures vain { IsElseVain self.now word result }
         ensures fair { HasFairHits self.now }
     {
         match self.place_of(word) {

@@ -1,7 +1,7 @@
 //! The scan of a whole row by weight times factor.
 
 ghost use Rattle.std.specs.Prelude.{◌≡◌, ℕ, ◌≤◌, ◌<◌, ◌^◌, List, length, IfSome};
-ghost use Rattle.dart_envelope.specs.Hits.{HasFairScans};
+ghost use Rattle.dart_envelope.specs.Hits.{HasFairScans, HasFairScansOf};
 ghost use Rattle.dart_envelope.specs.Scans.{AnswersAre, total_of, scan_of};
 
 /// The sum of weight times factor over a row's edges; the closure answers the factor of an edge by
@@ -9,7 +9,8 @@ ghost use Rattle.dart_envelope.specs.Scans.{AnswersAre, total_of, scan_of};
 pub fn scan_total<F: Fn(usize) -> u64>(weights: &[u64], factors: F) -> u64
     requires callable { (edge : ℕ) → edge < length weights.now → F.pre factors edge }
     requires fits { (fs : List ℕ) × AnswersAre (F.post factors) (length weights.now) fs × (total_of weights.now fs ≤ 2 ^ 62) }
-    ensures { (fs : List ℕ) → AnswersAre (F.post factors) (length weights.now) fs → result ≡ total_of weights.now fs }
+    ensures total { (fs : List ℕ) → AnswersAre (F.post factors) (length weights.now) fs → result ≡ total_of weights.now fs }
+    ensures fair { (fs : List ℕ) → AnswersAre (F.post factors) (length weights.now) fs → HasFairScansOf weights.now fs result }
 {
     let mut total = 0u64;
     for (edge, weight) in weights.iter().enumerate() {

@@ -96,6 +96,8 @@ fn classes_without_a_return<L: Ledger, R: Abort + AllocGlobal>(
         ],
         steps,
     );
+    let shares = [(0, 0), (24, 4919131752989213760), (9, 1844674407370955160)];
+    expect_shares(rt, &board, &[0, 1, 2], &shares, steps);
     Ok(())
 }
 
@@ -130,6 +132,12 @@ fn a_return_edge<L: Ledger, R: Abort + AllocGlobal>(
     assert!(rt; near);
     let far = board.settle(2, 1, 2);
     assert!(rt; !far);
+    let shares = [
+        (48, 12297829382473034400),
+        (12, 3074457345618258600),
+        (3, 768614336404564650),
+    ];
+    expect_shares(rt, &board, &[0, 1, 2], &shares, steps);
     Ok(())
 }
 
@@ -256,6 +264,56 @@ fn boards_that_do_not_rise<L: Ledger, R: Abort + AllocGlobal>(
     ];
     let factors = FactorTable::new([4, 4, 1]);
     expect_flat(rt, &factors, (0, 0), 36, &even, steps)
+}
+
+/// The edge that a dart takes, where the edges have these classes.
+fn taken<C: Classes, L: Ledger, const K: usize>(
+    board: &Board<C, K>,
+    classes: &[usize],
+    word: u64,
+    steps: &mut Steps<L>,
+) -> Option<usize> {
+    match board.throw(word, steps) {
+        Verdict::Take { edge } => Some(edge),
+        Verdict::Need { edge, height } => match classes.get(edge) {
+            Some(class) if *class < K && board.settle(edge, height, *class) => Some(edge),
+            _ => None,
+        },
+        Verdict::Miss | Verdict::Turned => None,
+    }
+}
+
+/// How many of the words below the area of a board take an edge: one word for each place.
+fn places_of<C: Classes, L: Ledger, const K: usize>(
+    board: &Board<C, K>,
+    classes: &[usize],
+    edge: usize,
+    steps: &mut Steps<L>,
+) -> u64 {
+    let mut count = 0u64;
+    for word in 0..board.area() {
+        if taken(board, classes, word, steps) == Some(edge) {
+            count = count.saturating_add(1);
+        }
+    }
+    count
+}
+
+/// Asserts how many places of a board take each edge, and how many of all words.
+fn expect_shares<C: Classes, L: Ledger, R: Abort, const K: usize>(
+    rt: &R,
+    board: &Board<C, K>,
+    classes: &[usize],
+    shares: &[(u64, u64)],
+    steps: &mut Steps<L>,
+) {
+    let rounds = u64::MAX / board.area();
+    for (edge, (places, words)) in shares.iter().enumerate() {
+        let count = places_of(board, classes, edge, steps);
+        assert_eq!(rt; count, *places);
+        let of_all = count.checked_mul(rounds);
+        assert_eq!(rt; of_all, Some(*words));
+    }
 }
 
 /// Throws at each of the boards.

@@ -3,7 +3,7 @@
 ghost use Rattle.std.specs.Prelude.{◌≡◌, ℕ, ◌≤◌, ◌<◌, ◌+◌, ◌*◌, ◌^◌, slice_index};
 ghost use Rattle.rand_chacha.specs.ChaCha.{key_of};
 ghost use Rattle.walk_model.specs.Words.{word, draw, coin, key_bytes};
-ghost use Rattle.walker_stream.specs.Folds.{HasFairFolds};
+ghost use Rattle.walker_stream.specs.Folds.{HasFairFolds, HasFairCoins};
 ghost use Rattle.walker_stream.specs.Standing.{standing, pair_at};
 
 use crate::folds::fold;
@@ -226,6 +226,7 @@ impl StreamReader {
         ensures value { (result, self.new.place) ≡ draw below (word self.old.seed self.old.walker) self.old.place }
         ensures within { result < below }
         ensures fair { HasFairFolds below }
+        ensures coins { HasFairCoins below }
         ensures stream { self.new ≡ record self.old { place = self.new.place } }
         ensures onward { self.old.place < self.new.place }
         ensures next { self.new.place ≤ self.old.place + 64 }

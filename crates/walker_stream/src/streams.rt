@@ -2,7 +2,7 @@
 
 ghost use Rattle.std.specs.Prelude.{◌≡◌, ◌≤◌, ◌<◌, ◌+◌, ◌^◌};
 ghost use Rattle.walk_model.specs.Words.{word, draw};
-ghost use Rattle.walker_stream.specs.Folds.{HasFairFolds};
+ghost use Rattle.walker_stream.specs.Folds.{HasFairFolds, HasFairCoins};
 ghost use Rattle.walker_stream.specs.Standing.{standing};
 
 use crate::reader::{StreamReader, word_at};
@@ -44,6 +44,7 @@ impl Streams {
         ensures value { result ≡ draw below (word self.now.seed walker) place }
         ensures within { result.0 < below }
         ensures fair { HasFairFolds below }
+        ensures coins { HasFairCoins below }
         ensures onward { place < result.1 }
         ensures next { result.1 ≤ place + 64 }
     {

@@ -1,4 +1,6 @@
-use Rattle.std.proofs.Common.{arith}
+use Rattle.std.proofs.Common.{◌≡◌, arith}
+use Rattle.dart_envelope.specs.Scans.{total_of}
+use Rattle.dart_envelope.proofs.HitLaws.{fair-scans}
 use Rattle.dart_envelope.proofs.ScanLemmas.{total-split, total-end}
 use Rattle.dart_envelope.proofs.scanning.scan_total.Goals as goal
 
@@ -27,8 +29,15 @@ loop-edge-preserved g c = λ fs are.
     let sofar = c.loop-edge.invariant fs are in
     rw here (omega (arith, split, sofar))
 
-pub returns : goal.returns
-returns g c = λ fs are.
+pub returns-clause-total : goal.returns-clause-total
+returns-clause-total g c = λ fs are.
     let sofar = c.loop-edge.invariant fs are in
     let done = total-end c.args.weights.now fs c.loop-edge.edge c.loop-edge-test.false in
     omega (arith, sofar, done)
+
+pub returns-clause-fair : goal.returns-clause-fair
+returns-clause-fair g c = λ fs are.
+    let sofar = c.loop-edge.invariant fs are in
+    let done = total-end c.args.weights.now fs c.loop-edge.edge c.loop-edge-test.false in
+    let whole : c.loop-edge.total ≡ total_of c.args.weights.now fs = omega (arith, sofar, done) in
+    rw whole (fair-scans c.args.weights.now fs are.long)

@@ -23,7 +23,7 @@ returns-then-total-eq0-clause-edge g c =
     let classes : List ℕ = g.C.RowClasses.classes c.args.classes.now in
     let fs : List ℕ = map (slice_index c.args.factors.now) classes in
     let whole : c.scan_total-total.result ≡ total_of c.args.table.now fs =
-    c.scan_total-total.ensures fs
+    c.scan_total-total.ensures.total fs
     (answers-are _ c.weights-weights.result.now c.args.table.now c.as_slice-by_class.result.now c.args.factors.now classes
     c.weights-weights.ensures.value c.as_slice-by_class.ensures.value c.requires.row.suits.long (λ edge factor said. said))
     ∙ ap (λ (ws : List ℕ). total_of ws fs) c.weights-weights.ensures.value in
@@ -36,7 +36,7 @@ draw-requires-clause-bound g c =
     let classes : List ℕ = g.C.RowClasses.classes c.args.classes.now in
     let fs : List ℕ = map (slice_index c.args.factors.now) classes in
     let whole : c.scan_total-total.result ≡ total_of c.args.table.now fs =
-    c.scan_total-total.ensures fs
+    c.scan_total-total.ensures.total fs
     (answers-are _ c.weights-weights.result.now c.args.table.now c.as_slice-by_class.result.now c.args.factors.now classes
     c.weights-weights.ensures.value c.as_slice-by_class.ensures.value c.requires.row.suits.long (λ edge factor said. said))
     ∙ ap (λ (ws : List ℕ). total_of ws fs) c.weights-weights.ensures.value in
@@ -49,7 +49,7 @@ scan-requires-clause-fits g c =
     let classes : List ℕ = g.C.RowClasses.classes c.args.classes.now in
     let fs : List ℕ = map (slice_index c.args.factors.now) classes in
     let whole : c.scan_total-total.result ≡ total_of c.weights-weights.result.now fs =
-    c.scan_total-total.ensures fs
+    c.scan_total-total.ensures.total fs
     (answers-are _ c.weights-weights.result.now c.args.table.now c.as_slice-by_class.result.now c.args.factors.now classes
     c.weights-weights.ensures.value c.as_slice-by_class.ensures.value c.requires.row.suits.long (λ edge factor said. said)) in
     let fits : total_of c.args.table.now fs ≤ 2 ^ 62 =
@@ -67,7 +67,7 @@ returns-clause-edge g c =
     let classes : List ℕ = g.C.RowClasses.classes c.args.classes.now in
     let fs : List ℕ = map (slice_index c.args.factors.now) classes in
     let whole : c.scan_total-total.result ≡ total_of c.args.table.now fs =
-    c.scan_total-total.ensures fs
+    c.scan_total-total.ensures.total fs
     (answers-are _ c.weights-weights.result.now c.args.table.now c.as_slice-by_class.result.now c.args.factors.now classes
     c.weights-weights.ensures.value c.as_slice-by_class.ensures.value c.requires.row.suits.long (λ edge factor said. said))
     ∙ ap (λ (ws : List ℕ). total_of ws fs) c.weights-weights.ensures.value in

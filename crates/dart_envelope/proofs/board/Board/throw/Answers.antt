@@ -1,9 +1,8 @@
-use Rattle.std.proofs.Common.{◌≡◌, ◌<◌, ◌≤◌, sym, ap, ◌∙◌, Some, None, arith}
+use Rattle.std.proofs.Common.{◌≡◌, ◌<◌, ◌≤◌, sym, ◌∙◌, Some, None, arith}
 use Rattle.walk_model.specs.Words.{fold_word}
 use Rattle.walk_model.specs.Dart.{main_area, area}
 use Rattle.dart_envelope.specs.ClassBoards.{frame}
-use Rattle.dart_envelope.proofs.AreaLemmas.{area-some, area-bound}
-use Rattle.dart_envelope.proofs.BoardLaws.{verdict-miss, miss-settles, verdict-place, place-settles, read-none, read-main, read-strip}
+use Rattle.dart_envelope.proofs.BoardLaws.{verdict-miss, miss-settles, verdict-place, place-settles, read-none, read-main, read-strip, settles-vain}
 use Rattle.dart_envelope.proofs.HitLaws.{fair-hits}
 use Rattle.dart_envelope.proofs.board.Board.throw.Goals as goal
 
@@ -91,3 +90,24 @@ pub returns-in-Some-2-clause-fair : goal.returns-in-Some-2-clause-fair
 returns-in-Some-2-clause-fair g c =
     let made = rw c.self.view_is at c.self.invariant in
     fair-hits _ c.args.self.now made.board
+
+pub returns-in-None-clause-vain : goal.returns-in-None-clause-vain
+returns-in-None-clause-vain g c =
+    let b = c.args.self.now in
+    let folds : None ≡ fold_word (area (frame b)) c.args.word =
+    sym c.in-None.is ∙ c.place_of.ensures.value in
+    settles-vain b c.args.word _ (miss-settles b c.args.word folds)
+
+pub returns-in-Some-clause-vain : goal.returns-in-Some-clause-vain
+returns-in-Some-clause-vain g c =
+    let b = c.args.self.now in
+    let folds : Some c.in-Some.place ≡ fold_word (area (frame b)) c.args.word =
+    sym c.in-Some.is ∙ c.place_of.ensures.value in
+    settles-vain b c.args.word _ (place-settles b c.args.word c.in-Some.place c.candidate.result folds c.candidate.ensures.settles)
+
+pub returns-in-Some-2-clause-vain : goal.returns-in-Some-2-clause-vain
+returns-in-Some-2-clause-vain g c =
+    let b = c.args.self.now in
+    let folds : Some c.in-Some.place ≡ fold_word (area (frame b)) c.args.word =
+    sym c.in-Some.is ∙ c.place_of.ensures.value in
+    settles-vain b c.args.word _ (place-settles b c.args.word c.in-Some.place c.return_edge.result folds c.return_edge.ensures.settles)
