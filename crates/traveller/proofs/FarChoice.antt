@@ -1,5 +1,5 @@
 -- The board on which a walker asks another part.
-use Rattle.std.proofs.Common.{◌≡◌, ℕ, ◌*◌, ◌^◌, ◌≤◌, Bool, true, false, List, [], ◌∷◌, length, map, sum, Option, Some, None, refl, ap, sym, subst, ◌∙◌, arith}
+use Rattle.std.proofs.Common.{◌≡◌, ℕ, ◌+◌, ◌*◌, ◌^◌, ◌≤◌, Bool, true, false, List, [], ◌∷◌, length, map, sum, Option, Some, None, refl, ap, sym, subst, ◌∙◌, arith}
 use Rattle.std.specs.Prelude.{◌==◌, if◌then◌else◌, slice_index}
 use Rattle.std.proofs.lemmas.Bool.Decides.{nat_tests}
 use Rattle.walk_model.specs.declared.graph.Edge.{Edge}
@@ -28,9 +28,11 @@ use Rattle.traveller.specs.declared.ruling.TypedFactors.TheVariants as typed
 use Rattle.traveller.specs.Askers.{IsAsker}
 use Rattle.traveller.specs.Far.{TellsAll, far_mode, far_scan}
 use Rattle.traveller.specs.RuleFactors.{AreTyped}
+use Rattle.traveller.specs.Ticks.{columns}
 use Rattle.traveller.specs.Turns.{chosen_or_over, row_question, scan_mode, throws}
 use Rattle.traveller.proofs.ChoiceLemmas.{choice-after, long-dsts}
 use Rattle.traveller.proofs.FarLemmas.{throws-flat}
+use Rattle.traveller.proofs.FarTicks.{asked-flat}
 use Rattle.traveller.proofs.TellLemmas.{tells-all}
 
 -- the board of the classes by destinations, after another vertex
@@ -173,3 +175,22 @@ far-comes n edges plan s back a ws fs dsts run words place next cb found f made 
     ∙ ap (λ (b : ClassBoard). throws n (Some a) (board_by b classes) words place) (sym made)
     ∙ comes a classes suits tell
     ∙ ap (λ (b : ClassBoard). far_mode a (board_by b classes) words found next) made
+
+-- and the columns that they read
+pub far-reads : (n : ℕ) (edges : List Edge) (plan : Settings) (s : State) (back : ℕ) (a : Asker) (ws fs dsts : List ℕ) (run : ℕ × ℕ) (words : ℕ → ℕ) (place before after : ℕ) (cb : ClassBoard)
+    → IsFar edges plan s back a ws fs dsts run → cb ≡ far_board ws fs back dsts run
+    → ((a : Asker) (classes : List ℕ) → Suits cb classes → TellsAll cb a classes
+    → after ≡ before + columns n (Some a) (board_by cb classes) words place)
+    → after ≡ before + columns n (Some a) (board_of edges plan s (row edges s.at)) words place
+far-reads n edges plan s back a ws fs dsts run words place before after cb f made reads =
+    let near : List ℕ = ends_of (row edges back) in
+    let classes : List ℕ = classes_to near back dsts in
+    let suits : Suits cb classes = rw made ((far-choice edges plan s back a ws fs dsts near run f).suits) in
+    let tell : TellsAll cb a classes = rw made (far-tells edges plan s back a ws fs dsts classes run f) in
+    let same : columns n (Some a) (board_by (far_board ws fs back dsts run) classes) words place ≡ columns n (Some a) (board_of edges plan s (row edges s.at)) words place =
+    rw (f.run_is, f.dsts_are, f.factors, ← f.weights)
+    (strip-same (λ (b : Board). columns n (Some a) b words place) (λ ws fs h from count. asked-flat n a ws fs h from count words place)
+    edges plan s a.p a.q back (row edges s.at) f.rule f.previous) in
+    reads a classes suits tell
+    ∙ ap (λ (b : ClassBoard). before + columns n (Some a) (board_by b classes) words place) made
+    ∙ ap (λ k. before + k) same

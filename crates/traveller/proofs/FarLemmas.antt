@@ -42,7 +42,7 @@ unfolding throws
 far-spent n a b words place is = rw is refl
 
 -- where the return factor doesn't rise, it doesn't matter which edges go back
-question-flat : (a : Asker) (ws fs : List ℕ) (h from count w : ℕ)
+pub question-flat : (a : Asker) (ws fs : List ℕ) (h from count w : ℕ)
     → edge_question (Some a) (flat_board ws fs h from count) w ≡ edge_question (Some a) (flat_board ws fs h 0 0) w
 unfolding needed_at
 question-flat a ws fs h from count w =

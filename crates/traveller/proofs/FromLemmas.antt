@@ -18,26 +18,32 @@ use Rattle.traveller.specs.Locals.{IsLocal, local_mode, row_mode}
 use Rattle.traveller.specs.Turns.{asker_at, asker_by, board_at, row_at}
 use Rattle.traveller.proofs.LocalLemmas.{throws-alone, asker-none, board-same}
 
--- the choice by what a walker goes by
-pub row-goes : (g : RowGraph) (p : PartView) (plan : Settings) (words : ℕ → ℕ) (j : Journey) (s : State) (n place : ℕ) (r : Option Asker)
+-- what a walker goes by, as its part and the rule tell it
+pub by-goes : {X : Type 0} (F : Option Asker → Board → List Edge → X) (g : RowGraph) (p : PartView) (plan : Settings) (words : ℕ → ℕ) (j : Journey) (s : State) (r : Option Asker)
     → GoesBy g p plan words j → asker_by j s plan.rule s.previous ≡ r
-    → row_mode n (asker_at j s) (board_at j s) (row_at j s) words place
-    ≡ row_mode n r (board_of g.edges plan s (row g.edges s.at)) (row g.edges s.at) words place
-row-goes g p plan words j s n place r goes is =
-    ap (λ (a : Option Asker). row_mode n a (board_at j s) (row_at j s) words place)
+    → F (asker_at j s) (board_at j s) (row_at j s) ≡ F r (board_of g.edges plan s (row g.edges s.at)) (row g.edges s.at)
+by-goes F g p plan words j s r goes is =
+    ap (λ (a : Option Asker). F a (board_at j s) (row_at j s))
     (ap (λ (q : Settings). asker_by j s q.rule s.previous) goes.plan_is ∙ is)
-    ∙ ap (λ (es : List Edge). row_mode n r (board_of es j.course.plan s (row es s.at)) (row es s.at) words place) goes.edges
-    ∙ ap (λ (q : Settings). row_mode n r (board_of g.edges q s (row g.edges s.at)) (row g.edges s.at) words place) goes.plan_is
+    ∙ ap (λ (es : List Edge). F r (board_of es j.course.plan s (row es s.at)) (row es s.at)) goes.edges
+    ∙ ap (λ (q : Settings). F r (board_of g.edges q s (row g.edges s.at)) (row g.edges s.at)) goes.plan_is
 
 -- where no other part has to be asked
+pub by-local : {X : Type 0} (F : Option Asker → Board → List Edge → X) (g : RowGraph) (p : PartView) (plan : Settings) (words : ℕ → ℕ) (j : Journey) (s : State)
+    → IsPartOf g p → GoesBy g p plan words j → Owns p s.at → IsLocal p plan.rule s.previous
+    → F (asker_at j s) (board_at j s) (row_at j s) ≡ F None (board_of p.edges plan s (row p.edges s.at)) (row p.edges s.at)
+by-local F g p plan words j s of goes here local =
+    by-goes F g p plan words j s None goes (asker-none j p s plan.rule s.previous goes.owners here local)
+    ∙ sym (ap (λ (b : Board). F None b (row g.edges s.at)) (board-same g p plan s of here local))
+    ∙ sym (ap (λ (out : List Edge). F None (board_of p.edges plan s (row p.edges s.at)) out) (of.rows s.at here))
+
+-- so the choice is that of the darts
 pub row-local : (g : RowGraph) (p : PartView) (plan : Settings) (words : ℕ → ℕ) (j : Journey) (s : State) (n place : ℕ) → IsPartOf g p
     → GoesBy g p plan words j → Owns p s.at → IsLocal p plan.rule s.previous
     → row_mode n (asker_at j s) (board_at j s) (row_at j s) words place
     ≡ local_mode n (board_of p.edges plan s (row p.edges s.at)) (row p.edges s.at) words place
 row-local g p plan words j s n place of goes here local =
-    row-goes g p plan words j s n place None goes (asker-none j p s plan.rule s.previous goes.owners here local)
-    ∙ sym (ap (λ (b : Board). row_mode n None b (row g.edges s.at) words place) (board-same g p plan s of here local))
-    ∙ sym (ap (λ (out : List Edge). row_mode n None (board_of p.edges plan s (row p.edges s.at)) out words place) (of.rows s.at here))
+    by-local (λ r b out. row_mode n r b out words place) g p plan words j s of goes here local
     ∙ ap (λ (m : Mode). if length (row p.edges s.at) == 0 then Over else m) (throws-alone n (board_of p.edges plan s (row p.edges s.at)) words place)
 
 -- a rule without a part to ask

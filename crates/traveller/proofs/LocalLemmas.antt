@@ -1,5 +1,5 @@
 -- A step that asks no other part is one on the whole graph.
-use Rattle.std.proofs.Common.{◌≡◌, ℕ, zero, suc, ◌+◌, ◌<◌, true, false, List, length, Option, Some, None, refl, ap, sym, ◌∙◌, arith}
+use Rattle.std.proofs.Common.{◌≡◌, ℕ, zero, suc, ◌+◌, true, List, Option, Some, None, refl, ap, ◌∙◌, arith}
 use Rattle.std.specs.Prelude.{◌==◌, if◌then◌else◌}
 use Rattle.std.proofs.lemmas.Bool.Decides.{nat_tests}
 use Rattle.walk_model.specs.declared.graph.Edge.{Edge}
@@ -15,11 +15,8 @@ use Rattle.walk_model.specs.Letters.{Journey}
 use Rattle.csr_store.specs.RowGraph.{RowGraph}
 use Rattle.csr_store.proofs.ListLemmas.{map-same}
 use Rattle.vertex_partition.specs.PartViews.{PartView, Owns, IsPartOf}
-use Rattle.traveller.specs.declared.runs.Run.{Run}
-use Rattle.traveller.specs.Turns.{asker_by, asker_at, board_at, chosen_or_over, dart_mode, throws, choice_mode}
-use Rattle.traveller.specs.Walkers.{Walker}
-use Rattle.traveller.specs.Locals.{IsLocal, local_mode}
-use Rattle.traveller.specs.Standing.{journey_on}
+use Rattle.traveller.specs.Turns.{asker_by, chosen_or_over, dart_mode, throws}
+use Rattle.traveller.specs.Locals.{IsLocal}
 
 -- darts that ask nothing come to the edge that is hit, or that is scanned
 pub throws-alone : (n : ℕ) (b : Board) (words : ℕ → ℕ) (place : ℕ) → throws n None b words place ≡ chosen_or_over (darts n b words place)
@@ -66,26 +63,3 @@ asker-none j p s (Node2vec a b) (Some t) owners here local =
     let second : j.owner s.at ≡ p.part = owners s.at ∙ here.owner_is in
     let same : (j.owner t == j.owner s.at) ≡ true = grind (arith, nat_tests) in
     rw same refl
-
--- darts on the board of a part are those on the whole graph
-pub throws-local : (g : RowGraph) (run : Run) (p : PartView) (w : Walker) (s : State) (n place : ℕ) → IsPartOf g p → Owns p s.at
-    → IsLocal p run.plan.rule s.previous → 0 < length (row p.edges s.at)
-    → (let j = journey_on g run p.cuts w in
-    local_mode n (board_of p.edges run.plan s (row p.edges s.at)) (row p.edges s.at) j.course.words place
-    ≡ throws n (asker_at j s) (board_at j s) j.course.words place)
-throws-local g run p w s n place of here local some =
-    let j : Journey = journey_on g run p.cuts w in
-    let full : (length (row p.edges s.at) == 0) ≡ false = grind (arith, nat_tests) in
-    let none : asker_at j s ≡ None = asker-none j p s run.plan.rule s.previous (λ v. refl) here local in
-    rw (full, none, board-same g p run.plan s of here local) (sym (throws-alone n (board_at j s) j.course.words place))
-
--- and so is the choice
-pub choice-local : (g : RowGraph) (run : Run) (p : PartView) (w : Walker) (s : State) (place : ℕ) → IsPartOf g p → Owns p s.at
-    → IsLocal p run.plan.rule s.previous
-    → (let j = journey_on g run p.cuts w in
-    local_mode run.plan.retries (board_of p.edges run.plan s (row p.edges s.at)) (row p.edges s.at) j.course.words place
-    ≡ choice_mode j s place)
-choice-local g run p w s place of here local =
-    let j : Journey = journey_on g run p.cuts w in
-    let none : asker_at j s ≡ None = asker-none j p s run.plan.rule s.previous (λ v. refl) here local in
-    rw (none, board-same g p run.plan s of here local, of.rows s.at here, throws-alone run.plan.retries (board_at j s) j.course.words place) refl

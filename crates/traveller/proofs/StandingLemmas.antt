@@ -1,10 +1,7 @@
--- Runs that suit a part, and steps that ask no other part.
-use Rattle.std.proofs.Common.{◌≡◌, ◌<◌, ◌≤◌, ◌*◌, ◌^◌, ℕ, Bool, List, length, sum, Option, Some, None, ap, sym, subst, ◌∙◌}
-use Rattle.std.specs.Prelude.{find, nat_lt, IfSome}
+-- Runs that suit a part.
+use Rattle.std.proofs.Common.{◌≡◌, ◌<◌, ◌≤◌, ◌*◌, ◌^◌, ℕ, Bool, List, length, sum, None, ap, sym, subst, ◌∙◌}
+use Rattle.std.specs.Prelude.{find, nat_lt}
 use Rattle.walk_model.specs.declared.graph.Edge.{Edge}
-use Rattle.walk_model.specs.declared.programme.Rule.{Rule}
-use Rattle.walk_model.specs.declared.programme.Rule.TheVariants.{Plain, Scheme, Node2vec}
-use Rattle.walk_model.specs.Cuts.{owner}
 use Rattle.walk_model.specs.Factor.{greatest_factor}
 use Rattle.walk_model.specs.Graph.{weights_of}
 use Rattle.walk_model.specs.Numbers.{below}
@@ -13,7 +10,6 @@ use Rattle.vertex_partition.specs.PartViews.{PartView, IsPart}
 use Rattle.vertex_partition.specs.Reaches.{row_reach}
 use Rattle.vertex_partition.proofs.ReachLaws.{reach-within}
 use Rattle.traveller.specs.declared.runs.Run.{Run}
-use Rattle.traveller.specs.Locals.{IsLocal}
 use Rattle.traveller.specs.Standing.{Suits}
 
 -- a run suits a part of a graph on which no vertex overflows
@@ -32,11 +28,3 @@ suits-part run g weighted factor cuts k p part many weighs greatest none =
           subst (λ (out : List Edge). length (weights_of run.plan.weighted out) * sum (weights_of run.plan.weighted out) * greatest_factor run.plan.rule ≤ 2 ^ 62)
           (sym (part.of_graph.rows v owns)) (reach-within g run.plan found v low);
     }
-
--- a part that owns all vertices has what each step needs to know
-pub local-whole : (p : PartView) (rule : Rule) (previous : Option ℕ) → ((v : ℕ) → v < p.vertices → owner p.cuts v ≡ p.part)
-    → IfSome previous (λ t. t < p.vertices) → IsLocal p rule previous
-local-whole p Plain previous all within = tt
-local-whole p (Scheme kinds) previous all within = tt
-local-whole p (Node2vec a b) None all within = tt
-local-whole p (Node2vec a b) (Some t) all within = record { below = within; owner_is = all t within }

@@ -1,20 +1,19 @@
 -- A turn that asks nobody comes to the next state of the plain walk.
-use Rattle.std.proofs.Common.{◌≡◌, ℕ, zero, suc, ◌+◌, ◌<◌, ◌≤◌, Bool, true, false, List, [], ◌∷◌, ◌++◌, length, Option, Some, None, refl, ap, sym, subst, ◌∙◌, arith}
+use Rattle.std.proofs.Common.{◌≡◌, ℕ, suc, ◌+◌, ◌<◌, ◌≤◌, Bool, true, false, List, [], ◌∷◌, ◌++◌, length, Option, Some, None, refl, ap, sym, ◌∙◌, arith}
 use Rattle.std.specs.Prelude.{◌==◌, ◌-◌, nat_lt, slice_get, IsTrue, option_map, option_and_then, if◌then◌else◌}
 use Rattle.std.proofs.lemmas.Bool.Decides.{nat_tests}
 use Rattle.walk_model.specs.declared.graph.Edge.{Edge}
-use Rattle.walk_model.specs.declared.results.Print.{Print}
 use Rattle.walk_model.specs.declared.states.State.{State}
 use Rattle.walk_model.specs.Words.{coin}
 use Rattle.walk_model.specs.Graph.{row}
 use Rattle.walk_model.specs.Course.{Course}
-use Rattle.walk_model.specs.Dart.{Board, board_of, darts}
+use Rattle.walk_model.specs.Dart.{board_of, darts}
 use Rattle.walk_model.specs.Prints.{prints_from}
 use Rattle.walk_model.specs.Walk.{restarted, moved, moved_along, chosen, next_state, entry_and, entries_after}
 use Rattle.walk_model.specs.Letters.{Journey}
 use Rattle.traveller.specs.declared.modes.Mode.{Mode}
 use Rattle.traveller.specs.declared.modes.Mode.TheVariants.{Fresh, Darts, Asked, AskedRow, Chosen, Over}
-use Rattle.traveller.specs.Ahead.{print_of, left_print, ahead_from, prints_ahead}
+use Rattle.traveller.specs.Ahead.{left_print, ahead_from, prints_ahead}
 use Rattle.traveller.specs.Steps.{step_from}
 use Rattle.traveller.specs.Turns.{stop_coin, restart_coin, row_at, board_at, asker_at, chosen_or_over, throws, choice_mode, stepped, goes, begun, turned}
 use Rattle.traveller.specs.Walkers.{Walker, is_ready}

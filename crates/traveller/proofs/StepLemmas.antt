@@ -9,22 +9,20 @@ use Rattle.walk_model.specs.declared.programme.StartRule.TheVariants.{Each}
 use Rattle.walk_model.specs.Ratio.{Ratio}
 use Rattle.walk_model.specs.Words.{word, coin}
 use Rattle.walk_model.specs.Graph.{row, weights_of, ends_of}
-use Rattle.walk_model.specs.Dart.{Board, board_of, darts}
+use Rattle.walk_model.specs.Dart.{Board, darts}
 use Rattle.walk_model.specs.Walk.{restarted, moved_along, walker_count}
-use Rattle.walk_model.specs.Cuts.{owner}
 use Rattle.walk_model.specs.Letters.{Journey}
 use Rattle.walk_model.proofs.BoardLemmas.{length-weights_of}
 use Rattle.csr_store.specs.RowGraph.{RowGraph}
 use Rattle.vertex_partition.specs.PartViews.{PartView, Owns, IsPartOf}
 use Rattle.traveller.specs.declared.modes.Mode.{Mode}
-use Rattle.traveller.specs.declared.modes.Mode.TheVariants.{Fresh, Darts, Asked, AskedRow, Chosen, Over}
+use Rattle.traveller.specs.declared.modes.Mode.TheVariants.{Fresh, Chosen, Over}
 use Rattle.traveller.specs.declared.runs.Run.{Run}
 use Rattle.traveller.specs.Deciding.{decided, decided_from, coins_decided, gone, gone_from}
-use Rattle.traveller.specs.Locals.{IsDecided, IsLocal, local_mode}
-use Rattle.traveller.specs.Standing.{CanGo, IsPossible, journey_on}
+use Rattle.traveller.specs.Locals.{local_mode}
+use Rattle.traveller.specs.Standing.{journey_on}
 use Rattle.traveller.specs.Turns.{stop_coin, stepped, choice_mode, chosen_or_over}
 use Rattle.traveller.specs.Walkers.{Walker, fresh_at}
-use Rattle.traveller.proofs.LocalLemmas.{throws-local}
 
 -- a walker's number, where each vertex has one
 pub each-below : (rule : StartRule) (n w : ℕ) → rule ≡ Each → w < walker_count rule n → w < n
@@ -104,16 +102,6 @@ pub coins-choice : (j : Journey) (v : Walker) (m n : ℕ) (mode : Mode) → (fal
 unfolding coins_decided
 coins-choice j v m n mode stop restart is = rw (← stop, ← restart) (ap (λ c. record v { mode = c }) is)
 
--- darts that a walker goes on with
-pub darts-decided : (g : RowGraph) (run : Run) (p : PartView) (w : Walker) (left place : ℕ) (mode : Mode) → IsPartOf g p
-    → Owns p w.state.at → IsLocal p run.plan.rule w.state.previous → w.mode ≡ Darts left place → IsPossible run p w w.mode
-    → mode ≡ local_mode left (board_of p.edges run.plan w.state (row p.edges w.state.at)) (row p.edges w.state.at) (word run.seed w.number) place
-    → record w { mode = mode } ≡ decided (journey_on g run p.cuts w) w
-darts-decided g run p w left place mode of here local is possible comes =
-    let can : IsPossible run p w (Darts left place) = subst (IsPossible run p w) is possible in
-    let thrown = throws-local g run p w w.state left place of here local can.0 in
-    rw is (ap (λ m. record w { mode = m }) (comes ∙ thrown))
-
 -- a coin, by what it goes by
 pub same-coin : (x y : Ratio) (seed seed' walker walker' place place' : ℕ) (b c : Bool) (n : ℕ) → b ≡ c → x ≡ y → seed ≡ seed'
     → walker ≡ walker' → place ≡ place' → (b, n) ≡ coin x (word seed walker) place → (c, n) ≡ coin y (word seed' walker') place'
@@ -131,13 +119,3 @@ fresh-decided g run cuts w is more =
     let yes : nat_lt w.state.steps w.length ≡ true = grind (arith, nat_tests) in
     let begins : (if nat_lt w.state.steps w.length then coins_decided j w else record w { mode = Over }) ≡ coins_decided j w = rw yes refl in
     ap (coins_decided j) same ∙ sym (ap (decided_from j w) is ∙ begins)
-
--- a walker that has decided can go
-pub decided-goes : (p : PartView) (w : Walker) (most : ℕ) (m : Mode) → owner p.cuts w.state.at ≡ p.part
-    → IsDecided (row p.edges w.state.at) most m → CanGo p w m
-decided-goes p w most Fresh own h = tt
-decided-goes p w most (Darts left place) own h = tt
-decided-goes p w most (Asked left place question) own h = tt
-decided-goes p w most (AskedRow place question) own h = tt
-decided-goes p w most (Chosen edge place) own h = (own, h.0)
-decided-goes p w most Over own h = tt

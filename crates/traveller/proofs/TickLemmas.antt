@@ -69,7 +69,7 @@ columns-same (suc more) b c words place hits reads =
     rw (hits (words place), reads (words place), columns-same more b c words (place + 1) hits reads) refl
 
 -- where nothing rises, no run of edges changes the columns
-column-flat : (ws fs : List ℕ) (h from count w : ℕ) → dart_column (flat_board ws fs h from count) w ≡ dart_column (flat_board ws fs h 0 0) w
+pub column-flat : (ws fs : List ℕ) (h from count w : ℕ) → dart_column (flat_board ws fs h from count) w ≡ dart_column (flat_board ws fs h 0 0) w
 unfolding dart_column
 column-flat ws fs h from count w =
     let same : area (flat_board ws fs h from count) ≡ area (flat_board ws fs h 0 0) = omega arith in

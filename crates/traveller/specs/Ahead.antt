@@ -1,5 +1,5 @@
 -- The prints that a walker leaves.
-use Rattle.std.specs.Prelude.{ℕ, ◌+◌, ◌-◌, Bool, if◌then◌else◌, List, [], ◌∷◌}
+use Rattle.std.specs.Prelude.{◌+◌, ◌-◌, if◌then◌else◌, List, [], ◌∷◌}
 use Rattle.walk_model.specs.declared.results.Print.{Print}
 use Rattle.walk_model.specs.Course.{Course}
 use Rattle.walk_model.specs.Prints.{prints_from}

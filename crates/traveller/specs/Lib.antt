@@ -3,6 +3,7 @@ pub mod Askers
 pub mod Beginnings
 pub mod Bounds
 pub mod Choices
+pub mod Decided
 pub mod Deciding
 pub mod Far
 pub mod Heres
@@ -14,5 +15,6 @@ pub mod Runs
 pub mod Standing
 pub mod Steps
 pub mod Ticks
+pub mod Told
 pub mod Turns
 pub mod Walkers

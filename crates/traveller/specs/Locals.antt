@@ -22,11 +22,10 @@ abbrev pub local_mode : ℕ → Board → List Edge → (ℕ → ℕ) → ℕ �
 local_mode left b out words place =
     if length out == 0 then Over else chosen_or_over (darts left b words place)
 
--- an edge of the row is chosen, with a next word up to a place, or the walk ends
-abbrev pub IsDecided : List Edge → ℕ → Mode → Type 0
-IsDecided out most (Chosen edge place) = (edge < length out) × (place ≤ most)
-IsDecided out most Over = ⊤
-IsDecided out most _ = ⊥
+-- an edge that is chosen is one of so many, with a next word up to a place
+abbrev pub IsInRow : ℕ → ℕ → Mode → Type 0
+IsInRow count most (Chosen edge place) = (edge < count) × (place ≤ most)
+IsInRow count most _ = ⊤
 
 -- what so many darts on a board of a row come to, where another part may have to be asked
 abbrev pub row_mode : ℕ → Option Asker → Board → List Edge → (ℕ → ℕ) → ℕ → Mode

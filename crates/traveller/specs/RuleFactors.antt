@@ -18,3 +18,8 @@ AreTyped _ _ = ⊥
 pub record AreFactors (r : Rule) (f : RuleFactors) : Type 0 where
   pub one : f.one ≡ 1 ∷ []
   pub typed : AreTyped r f.typed
+
+-- a rule by which it counts what is near the vertex before
+abbrev pub CountsNear : Rule → Type 0
+CountsNear (rule.Node2vec p q) = Unit {0}
+CountsNear _ = ⊥

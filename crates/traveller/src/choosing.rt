@@ -1,6 +1,7 @@
 //! The choice of an edge on the board of a plan's rule.
 
-ghost use Rattle.std.specs.Prelude.{◌≡◌, ◌≤◌, ◌<◌, ◌+◌, ◌*◌, ◌^◌, ◌==◌, ℕ, [], None, Some, IfSome, length, sum, option_map, if◌then◌else◌};
+ghost use Rattle.std.specs.Prelude.{◌≡◌, ◌≤◌, ◌<◌, ◌+◌, ◌*◌, ◌^◌, ◌==◌, ℕ, [], None, Some, IfSome, length, sum, option_map, if◌then◌else◌, IfNone};
+ghost use Rattle.walk_model.specs.declared.programme.Rule.{Rule as TheRule};
 ghost use Rattle.walk_model.specs.Words.{word};
 ghost use Rattle.walk_model.specs.Graph.{row, weights_of};
 ghost use Rattle.walk_model.specs.Dart.{board_of, darts};
@@ -9,9 +10,9 @@ ghost use Rattle.walk_model.specs.Letters.{Asker, Journey};
 ghost use Rattle.csr_store.specs.RowGraph.{RowGraph};
 ghost use Rattle.vertex_partition.specs.PartViews.{Owns, IsPartOf};
 ghost use Rattle.traveller.specs.Far.{IsNearChoice, far_scan, near_board};
-ghost use Rattle.traveller.specs.Locals.{IsDecided, IsLocal, local_mode, row_mode};
+ghost use Rattle.traveller.specs.Locals.{IsInRow, IsLocal, local_mode, row_mode};
 ghost use Rattle.traveller.specs.RuleFactors.{AreFactors, AreTyped};
-ghost use Rattle.traveller.specs.Askers.{GoesBy, IsAsker};
+ghost use Rattle.traveller.specs.Askers.{GoesBy, IsAsker, IsAway};
 ghost use Rattle.traveller.specs.Ticks.{columns, row_columns};
 ghost use Rattle.traveller.specs.Turns.{asker_at, board_at, row_at, throws};
 ghost use Rattle.traveller.specs.declared.ruling.TypedFactors.TheVariants as typed;
@@ -84,7 +85,7 @@ fn scan_far(
     requires room { reader.old.place ≤ 2 ^ 63 }
     ensures mode { result ≡ far_scan factors.now classes.now.back (near_board table.now factors.now classes.now) (word reader.old.seed reader.old.walker) reader.old.place }
     ensures seed { reader.new.seed ≡ reader.old.seed }
-    ensures next { reader.new.place ≤ reader.old.place + 64 }
+    ensures inside { IsInRow (length table.now) (reader.old.place + 64) result }
 {
     if factors.factor(1) != factors.factor(2) {
         return Mode::AskedRow {
@@ -103,7 +104,7 @@ fn scan_far(
 
 /// What the choice among the edges of a row comes to with so many darts left, after a step from a vertex of
 /// another part.
-pub(crate) fn choose_far<L: Ledger>(
+fn choose_far<L: Ledger>(
     part: &PartRows,
     table: &AliasTable,
     plan: &Plan,
@@ -124,7 +125,9 @@ pub(crate) fn choose_far<L: Ledger>(
     ensures mode { (g : RowGraph) (a : Asker) → IsPartOf g part.now → IsAsker g plan.now s back a
         → throws left (Some a) (board_of g.edges plan.now s (row g.edges s.at)) (word reader.old.seed reader.old.walker) reader.old.place ≡ result }
     ensures seed { reader.new.seed ≡ reader.old.seed }
-    ensures next { reader.new.place ≤ reader.old.place + left + 64 }
+    ensures inside { IsInRow (length table.now) (reader.old.place + left + 64) result }
+    ensures ticks { (g : RowGraph) (a : Asker) → IsPartOf g part.now → IsAsker g plan.now s back a
+        → steps.new ≡ steps.old + columns left (Some a) (board_of g.edges plan.now s (row g.edges s.at)) (word reader.old.seed reader.old.walker) reader.old.place }
 {
     // the weights are those of a row
     let _weights = table.weights();
@@ -155,8 +158,10 @@ pub(crate) fn choose_far<L: Ledger>(
 }
 
 /// What the choice among the edges from a vertex comes to with so many darts left, after a step from a
-/// vertex of another part.
-pub(crate) fn choose_asking<L: Ledger>(
+/// vertex of another part. It stands apart from the steps that ask nobody.
+#[cold]
+#[inline(never)]
+fn choose_asking<L: Ledger>(
     part: &PartRows,
     plan: &Plan,
     factors: &FactorTable<3>,
@@ -176,7 +181,9 @@ pub(crate) fn choose_asking<L: Ledger>(
     ensures mode { (g : RowGraph) (a : Asker) → IsPartOf g part.now → IsAsker g plan.now s back a
         → row_mode left (Some a) (board_of g.edges plan.now s (row g.edges s.at)) (row g.edges s.at) (word reader.old.seed reader.old.walker) reader.old.place ≡ result }
     ensures seed { reader.new.seed ≡ reader.old.seed }
-    ensures next { reader.new.place ≤ reader.old.place + left + 64 }
+    ensures inside { IsInRow (length (row part.now.edges s.at)) (reader.old.place + left + 64) result }
+    ensures ticks { (g : RowGraph) (a : Asker) → IsPartOf g part.now → IsAsker g plan.now s back a
+        → steps.new ≡ steps.old + row_columns left (Some a) (board_of g.edges plan.now s (row g.edges s.at)) (row g.edges s.at) (word reader.old.seed reader.old.walker) reader.old.place }
 {
     match part.table(s.at) {
         None => Mode::Over,
@@ -186,7 +193,7 @@ pub(crate) fn choose_asking<L: Ledger>(
 
 /// What the choice among the edges from a vertex comes to with so many darts left, where no other part
 /// has to be asked.
-pub(crate) fn choose_mode<L: Ledger>(
+fn choose_mode<L: Ledger>(
     part: &PartRows,
     plan: &Plan,
     factors: &RuleFactors<'_>,
@@ -204,7 +211,7 @@ pub(crate) fn choose_mode<L: Ledger>(
     requires room { reader.old.place ≤ 2 ^ 62 }
     ensures mode { result ≡ local_mode left (board_of part.now.edges plan.now s (row part.now.edges s.at)) (row part.now.edges s.at) (word reader.old.seed reader.old.walker) reader.old.place }
     ensures seed { reader.new.seed ≡ reader.old.seed }
-    ensures bound { IsDecided (row part.now.edges s.at) (reader.old.place + left + 64) result }
+    ensures inside { IsInRow (length (row part.now.edges s.at)) (reader.old.place + left + 64) result }
     ensures ticks { steps.new ≡ steps.old + row_columns left None (board_of part.now.edges plan.now s (row part.now.edges s.at)) (row part.now.edges s.at) (word reader.old.seed reader.old.walker) reader.old.place }
 {
     match part.table(s.at) {
@@ -219,7 +226,42 @@ pub(crate) fn choose_mode<L: Ledger>(
     }
 }
 
+/// The vertex before a step and the factors by it, where another part owns that vertex.
+#[derive(Clone, Copy)]
+struct Remote<'a> {
+    back: u32,
+    factors: &'a FactorTable<3>,
+}
+
+/// The vertex before a step, if another part owns it and the step goes by what is near it.
+#[inline]
+fn away<'a>(
+    part: &PartRows,
+    typed: &'a TypedFactors<'_>,
+    previous: Option<u32>,
+) -> Option<Remote<'a>>
+    requires { IfSome previous (λ t. t < part.now.vertices) }
+    ensures here { (rule : TheRule) → AreTyped rule typed.now → IfNone result (IsLocal part.now rule previous) }
+    ensures there { (rule : TheRule) → AreTyped rule typed.now → IfSome result (λ a. IsAway part.now rule previous a.back a.factors.now) }
+{
+    match typed {
+        TypedFactors::Plain => None,
+        TypedFactors::Scheme { .. } => None,
+        TypedFactors::Node2vec { factors } => match previous {
+            None => None,
+            Some(back) => {
+                if part.owns(back) {
+                    None
+                } else {
+                    Some(Remote { back, factors })
+                }
+            }
+        },
+    }
+}
+
 /// What the choice among the edges from a vertex comes to with so many darts left.
+#[inline]
 pub(crate) fn choose_from<L: Ledger>(
     part: &PartRows,
     plan: &Plan,
@@ -239,19 +281,12 @@ pub(crate) fn choose_from<L: Ledger>(
     ensures mode { (g : RowGraph) (j : Journey) → IsPartOf g part.now → GoesBy g part.now plan.now (word reader.old.seed reader.old.walker) j
         → row_mode left (asker_at j s) (board_at j s) (row_at j s) (word reader.old.seed reader.old.walker) reader.old.place ≡ result }
     ensures seed { reader.new.seed ≡ reader.old.seed }
+    ensures inside { IsInRow (length (row part.now.edges s.at)) (reader.old.place + left + 64) result }
+    ensures ticks { (g : RowGraph) (j : Journey) → IsPartOf g part.now → GoesBy g part.now plan.now (word reader.old.seed reader.old.walker) j
+        → steps.new ≡ steps.old + row_columns left (asker_at j s) (board_at j s) (row_at j s) (word reader.old.seed reader.old.walker) reader.old.place }
 {
-    match &factors.typed {
-        TypedFactors::Plain => choose_mode(part, plan, factors, left, s, reader, steps),
-        TypedFactors::Scheme { .. } => choose_mode(part, plan, factors, left, s, reader, steps),
-        TypedFactors::Node2vec { factors: three } => match s.previous {
-            None => choose_mode(part, plan, factors, left, s, reader, steps),
-            Some(back) => {
-                if part.owns(back) {
-                    choose_mode(part, plan, factors, left, s, reader, steps)
-                } else {
-                    choose_asking(part, plan, three, left, s, back, reader, steps)
-                }
-            }
-        },
+    match away(part, &factors.typed, s.previous) {
+        None => choose_mode(part, plan, factors, left, s, reader, steps),
+        Some(far) => { choose_asking(part, plan, far.factors, left, s, far.back, reader, steps) }
     }
 }

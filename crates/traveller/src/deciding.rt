@@ -1,18 +1,16 @@
 //! The beginning of a step.
 
-ghost use Rattle.std.specs.Prelude.{◌≡◌, ◌≤◌, ◌<◌, ◌+◌, ◌^◌, ℕ};
-ghost use Rattle.walk_model.specs.Graph.{row};
+ghost use Rattle.std.specs.Prelude.{◌≡◌, ◌≤◌, ◌<◌, ◌+◌, ◌^◌, ℕ, IfSome};
 ghost use Rattle.csr_store.specs.RowGraph.{RowGraph};
 ghost use Rattle.vertex_partition.specs.PartViews.{Owns, IsPartOf};
 ghost use Rattle.traveller.specs.Beginnings.{IsBegun};
 ghost use Rattle.traveller.specs.Deciding.{coins_decided, led_to};
-ghost use Rattle.traveller.specs.Locals.{IsLocal};
 ghost use Rattle.traveller.specs.RuleFactors.{AreFactors};
-ghost use Rattle.traveller.specs.Standing.{Suits, journey_on};
+ghost use Rattle.traveller.specs.Standing.{Suits, journey_on, own_graph};
 ghost use Rattle.traveller.specs.Ticks.{coins_columns};
 ghost use Rattle.traveller.specs.Walkers.{fresh_at};
 
-use crate::choosing::choose_mode;
+use crate::choosing::choose_from;
 use crate::modes::Mode;
 use crate::ruling::RuleFactors;
 use crate::runs::Run;
@@ -42,14 +40,15 @@ pub(crate) fn begun<L: Ledger>(
     requires rule { AreFactors run.now.plan.rule factors.now }
     requires suits { Suits run.now part.now }
     requires at { Owns part.now s.at }
-    requires local { IsLocal part.now run.now.plan.rule s.previous }
+    requires previous { IfSome s.previous (λ t. t < part.now.vertices) }
     requires seed { reader.old.seed ≡ run.now.seed }
     requires place { reader.old.place ≡ s.place }
     requires room { s.place ≤ 2 ^ 61 }
     ensures data { (g : RowGraph) (start length : ℕ) → IsPartOf g part.now
         → (let w = fresh_at reader.old.walker start length s in led_to w result ≡ coins_decided (journey_on g run.now part.now.cuts w) w) }
     ensures seed { reader.new.seed ≡ reader.old.seed }
-    ensures bound { IsBegun (row part.now.edges s.at) s.place result }
+    ensures bound { IsBegun (journey_on (own_graph part.now) run.now part.now.cuts (fresh_at reader.old.walker 0 0 s)) s result }
+    ensures few { run.now.plan.retries ≤ 1000 }
     ensures ticks { (g : RowGraph) (start length : ℕ) → IsPartOf g part.now
         → (let w = fresh_at reader.old.walker start length s in steps.new ≡ steps.old + coins_columns (journey_on g run.now part.now.cuts w) s) }
 {
@@ -62,6 +61,6 @@ pub(crate) fn begun<L: Ledger>(
         };
     }
     Decision::Comes {
-        mode: choose_mode(part, &run.plan, factors, run.plan.retries, s, reader, steps),
+        mode: choose_from(part, &run.plan, factors, run.plan.retries, s, reader, steps),
     }
 }

@@ -5,6 +5,7 @@ ghost use Rattle.walk_model.specs.Words.{word};
 ghost use Rattle.walk_model.specs.Letters.{Asker};
 ghost use Rattle.dart_envelope.specs.ClassBoards.{Suits, board_by};
 ghost use Rattle.traveller.specs.Far.{TellsAll, far_mode, IsFarWithin};
+ghost use Rattle.traveller.specs.Ticks.{columns};
 ghost use Rattle.traveller.specs.Turns.{throws};
 
 use dart_envelope::{Board, Verdict};
@@ -39,6 +40,8 @@ pub(crate) fn throw_far<L: Ledger>(
     ensures within { IsFarWithin (length board.now.weights) left result }
     ensures stream { reader.new ≡ record reader.old { place = reader.new.place } }
     ensures next { reader.new.place ≤ reader.old.place + left }
+    ensures ticks { (a : Asker) (classes : List ℕ) → Suits board.now classes → TellsAll board.now a classes
+        → steps.new ≡ steps.old + columns left (Some a) (board_by board.now classes) (word reader.old.seed reader.old.walker) reader.old.place }
 {
     let mut left = left;
     while left > 0 {

@@ -38,7 +38,7 @@ const MOST_PLACE: u64 = 0x4000_0000_0000_0000;
 impl Lane {
     ghost use Rattle.traveller.specs.Ahead.{print_of};
     ghost use Rattle.traveller.specs.Deciding.{decided, gone};
-    ghost use Rattle.traveller.specs.Standing.{CanGo, IsWithin, StandsIn, StepsLocally, Suits, journey_on};
+    ghost use Rattle.traveller.specs.Standing.{CanGo, IsWithin, StandsIn, Suits, journey_on};
     ghost use Rattle.traveller.specs.Walkers.{Walker, is_fresh, is_over, is_ready};
 
     /// A lane with a traveller of a run at its start.
@@ -133,7 +133,6 @@ impl Lane {
     pub fn decide<L: Ledger>(&mut self, here: &WalkPart<'_>, steps: &mut Steps<L>)
         requires stands { StandsIn here.now.run here.now.part self.old }
         requires ready { IsTrue (is_ready self.old.mode) }
-        requires local { StepsLocally here.now.run here.now.part self.old }
         ensures data { (g : RowGraph) → IsPartOf g here.now.part → self.new ≡ decided (journey_on g here.now.run here.now.part.cuts self.old) self.old }
         ensures number { self.new.number ≡ self.old.number }
         ensures start { self.new.start ≡ self.old.start }

@@ -5,6 +5,7 @@
 mod choosing;
 mod deciding;
 mod far_throwing;
+mod hearing;
 mod here;
 mod lanes;
 mod modes;

@@ -1,8 +1,9 @@
 //! Travellers and lanes by example, and beside the walks of the definition.
 
-ghost use Rattle.std.specs.Prelude.{◌≡◌, ◌<◌, ℕ, All, IsTrue};
+ghost use Rattle.std.specs.Prelude.{◌≡◌, ◌<◌, ℕ, All, IfOk, IsTrue};
 ghost use Rattle.walk_model.specs.Cuts.{owner};
-ghost use Rattle.traveller.specs.Standing.{IsWithin, StandsIn, StepsLocally, Suits};
+ghost use Rattle.traveller.specs.Replies.{Answers};
+ghost use Rattle.traveller.specs.Standing.{IsWithin, StandsIn, Suits};
 ghost use Rattle.traveller.specs.Walkers.{Walker, is_ready};
 
 use super::*;
@@ -14,7 +15,7 @@ use std::process::Abort;
 use std::sync::ledger::{Blank, Ledger};
 use std::test::Fail;
 use vertex_partition::{Cuts, PartRows};
-use walk_model::{Question, Rule, State, Steps, can_walk, plain_walk};
+use walk_model::{Ask, Ends, Found, Question, Reply, State, Steps, can_walk, plain_walk};
 use walker_stream::Streams;
 
 /// How a walker is led: by whole turns, by turns in two halves, or in a lane.
@@ -34,33 +35,56 @@ fn is_whole(part: &PartRows) -> bool
     one && first
 }
 
-/// Whether no step of a run asks another part than this one.
-fn asks_nobody(run: &Run, part: &PartRows) -> bool
-    ensures { IsTrue result → (w : Walker) → IsWithin part.now.vertices w → StepsLocally run.now part.now w }
-{
-    match &run.plan.rule {
-        Rule::Plain => true,
-        Rule::Scheme { .. } => true,
-        Rule::Node2vec { .. } => is_whole(part),
-    }
-}
-
 /// Whether a traveller at the beginning of a step can make it on a part.
 fn can_step(run: &Run, part: &PartRows, traveller: &Traveller) -> bool
     requires { Suits run.now part.now }
     ensures stands { IsTrue result → StandsIn run.now part.now traveller.now }
     ensures ready { IsTrue result → IsTrue (is_ready traveller.now.mode) }
-    ensures local { IsTrue result → StepsLocally run.now part.now traveller.now }
 {
     let fresh = traveller.is_fresh();
     let within = traveller.is_within(part.vertices());
     let here = part.owner(traveller.at()) == part.part();
-    let alone = asks_nobody(run, part);
-    fresh && within && here && alone
+    fresh && within && here
 }
 
-/// A whole turn.
+/// The distinct ends of a vertex's edges in the graph of loops and edges side by side.
+fn ends_in_tangle(alloc: Global, t: u32) -> Result<Ends, Fail> {
+    let ends = match t {
+        0 => Ends::of(vec![in alloc; 0, 1, 2]?),
+        1 => Ends::of(vec![in alloc; 0, 2, 3]?),
+        2 => Ends::of(vec![in alloc; 0, 1, 3]?),
+        3 => Ends::of(vec![in alloc; 0, 1, 3, 4]?),
+        _ => Ends::of(vec![in alloc]?),
+    };
+    Ok(ends)
+}
+
+/// The reply to an ask about that graph.
+fn reply_to(alloc: Global, ask: Ask) -> Result<Reply, Fail>
+    ensures ask { IfOk result (λ reply. reply.ask ≡ ask) }
+    ensures answers { IfOk result (λ reply. Answers ask.question reply.found) }
+{
+    match ask.question {
+        Question::Edge { t, x } => {
+            let near = TANGLE.iter().any(|line| line.0 == t && line.1 == x);
+            Ok(Reply {
+                ask,
+                found: Found::Edge { near },
+            })
+        }
+        Question::Row { t } => {
+            let ends = ends_in_tangle(alloc, t)?;
+            Ok(Reply {
+                ask,
+                found: Found::Row { ends },
+            })
+        }
+    }
+}
+
+/// A whole turn, in which each question is answered.
 fn whole_turn<L: Ledger>(
+    alloc: Global,
     run: &Run,
     part: &PartRows,
     traveller: &mut Traveller,
@@ -71,23 +95,41 @@ fn whole_turn<L: Ledger>(
     if !can_step(run, part, traveller) {
         return Err(Fail::new("a traveller that can't make its step here"));
     }
-    Ok(traveller.advance(run, part, steps))
+    'asking: for _ in 0..2000 {
+        let turn = traveller.advance(run, part, steps);
+        match traveller.question() {
+            None => return Ok(turn),
+            Some(question) => {
+                if part.owner(traveller.at()) != part.part() {
+                    return Err(Fail::new("a question from another part"));
+                }
+                let reply = reply_to(
+                    alloc,
+                    Ask {
+                        walker: traveller.number(),
+                        step: traveller.step() + 1,
+                        home: part.part(),
+                        question,
+                    },
+                )?;
+                traveller.hear(run, part, &reply);
+            }
+        }
+    }
+    Err(Fail::new("a walker that asks on and on"))
 }
 
-/// Whether a traveller can go on within its step. It does so from the edge that it has chosen: no call stops
-/// between darts.
+/// Whether a traveller can go on within its step, from the edge that it has chosen.
 fn can_go_on(run: &Run, part: &PartRows, traveller: &Traveller) -> bool
     requires stands { owner part.now.cuts traveller.now.state.at ≡ part.now.part → StandsIn run.now part.now traveller.now }
     requires within { IsWithin part.now.vertices traveller.now }
     ensures stands { IsTrue result → StandsIn run.now part.now traveller.now }
     ensures ready { IsTrue result → IsTrue (is_ready traveller.now.mode) }
-    ensures local { IsTrue result → StepsLocally run.now part.now traveller.now }
 {
     let goes = !traveller.has_ended();
     let waits = traveller.question().is_some();
     let here = part.owner(traveller.at()) == part.part();
-    let alone = asks_nobody(run, part);
-    goes && !waits && here && alone
+    goes && !waits && here
 }
 
 /// A turn in two halves: the second begins where an edge is chosen.
@@ -196,6 +238,7 @@ fn turns_in_lane<L: Ledger>(
 
 /// A turn of a walker on the part that owns the vertex where it stands.
 fn turn_at_home<L: Ledger>(
+    alloc: Global,
     ready: &Ready,
     lead: Lead,
     traveller: &mut Traveller,
@@ -208,7 +251,7 @@ fn turn_at_home<L: Ledger>(
         if part.owner(at) == part.part() {
             return match lead {
                 Lead::Halves => turn_in_halves(&ready.run, part, traveller, steps),
-                _ => whole_turn(&ready.run, part, traveller, steps),
+                _ => whole_turn(alloc, &ready.run, part, traveller, steps),
             };
         }
     }
@@ -228,7 +271,7 @@ fn turns_alone<L: Ledger>(
     let mut traveller = walker_of(&ready.run, number)?;
     let mut turns = Vec::new(alloc);
     'turning: for _ in 0..1000 {
-        let turn = turn_at_home(ready, lead, &mut traveller, steps)?;
+        let turn = turn_at_home(alloc, ready, lead, &mut traveller, steps)?;
         turns.push(turn)?;
         if traveller.has_ended() && traveller.question().is_none() {
             return Ok(turns);
@@ -422,10 +465,11 @@ fn cases_of(choice: Choice) -> [Case; 6] {
 /// Rules that ask about an edge alone.
 const LONE_CHOICES: [Choice; 3] = [Choice::Plain, Choice::Scheme(0, 1), Choice::Scheme(1, 1)];
 
-/// Rules that ask about the vertex before, too.
-const NEAR_CHOICES: [Choice; 3] = [
+/// Rules that ask about the vertex before, too: nearly each dart does by the second and the third.
+const NEAR_CHOICES: [Choice; 4] = [
     Choice::Node2vec((1, 4), (4, 1)),
     Choice::Node2vec((1000, 1), (1, 1000)),
+    Choice::Node2vec((1, 1), (1000, 1)),
     Choice::Node2vec((2, 3), (1, 1)),
 ];
 
@@ -450,6 +494,20 @@ fn walks_over_parts_are_those_of_the_definition(rt: HostRuntime) -> Result<(), F
             for case in cases_of(choice) {
                 let leads = [Lead::Turns, Lead::Halves];
                 expect_plain(&rt, &TANGLE, case, &cuts, &leads)?;
+            }
+        }
+    }
+    Ok(())
+}
+
+/// Walkers that ask other parts about the vertex before, and hear their replies.
+#[test]
+fn walks_with_replies_are_those_of_the_definition(rt: HostRuntime) -> Result<(), Fail> {
+    for count in [2, 3] {
+        let cuts = Cuts::balanced(rt.alloc(), &[1, 1, 1, 1, 1], count)?;
+        for choice in NEAR_CHOICES {
+            for case in cases_of(choice) {
+                expect_plain(&rt, &TANGLE, case, &cuts, &[Lead::Turns])?;
             }
         }
     }

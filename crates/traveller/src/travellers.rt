@@ -6,15 +6,16 @@ ghost use Rattle.walk_model.specs.Cuts.{owner};
 ghost use Rattle.csr_store.specs.RowGraph.{RowGraph};
 ghost use Rattle.vertex_partition.specs.PartViews.{Owns, IsPartOf};
 
-use crate::choosing::choose_mode;
+use crate::choosing::choose_from;
 use crate::deciding::{Decision, begun};
+use crate::hearing::{asked, hear_edge, hear_row, near_factors, told_ends, told_near};
 use crate::modes::{Mode, Turn};
 use crate::ruling::{RuleFactors, rule_factors};
 use crate::runs::Run;
-use std::marker::Model;
-use std::sync::ledger::Ledger;
+use std::marker::{Brand, Model};
+use std::sync::ledger::{Blank, Ledger};
 use vertex_partition::PartRows;
-use walk_model::{Question, State, Steps};
+use walk_model::{Question, Reply, State, Steps};
 use walker_stream::{StreamReader, Streams};
 
 /// A walker on its way, seen as its number, its start, how many steps it may take, the state of its walk,
@@ -43,8 +44,9 @@ impl Model for Traveller {
 impl Traveller {
     ghost use Rattle.traveller.specs.declared.runs.Run.{Run as TheRun};
     ghost use Rattle.traveller.specs.Deciding.{decided, gone, turn_of};
+    ghost use Rattle.traveller.specs.Replies.{Answers, hear};
     ghost use Rattle.traveller.specs.RuleFactors.{AreFactors};
-    ghost use Rattle.traveller.specs.Standing.{CanGo, IsWithin, StandsIn, StepsLocally, Suits, journey_on, parted};
+    ghost use Rattle.traveller.specs.Standing.{CanGo, IsWithin, StandsIn, Suits, journey_on, parted};
     ghost use Rattle.traveller.specs.Ticks.{columns_in, turn_columns};
     ghost use Rattle.traveller.specs.Turns.{advance};
     ghost use Rattle.traveller.specs.Walkers.{Walker, first_walker, is_fresh, is_over, is_ready, question_of};
@@ -139,8 +141,8 @@ impl Traveller {
         self.start < vertices && self.state.at < vertices && before
     }
 
-    /// Decides what it does next, as far as it can: it comes to an edge that it will go along, is back at its
-    /// start, or has ended its walk.
+    /// Decides what it does next, as far as it can: it comes to an edge that it will go along or to a question
+    /// to another part, is back at its start, or has ended its walk.
     pub fn decide<L: Ledger>(
         &mut self,
         run: &Run,
@@ -152,7 +154,6 @@ impl Traveller {
         requires rule { AreFactors run.now.plan.rule factors.now }
         requires stands { StandsIn run.now part.now self.old }
         requires ready { IsTrue (is_ready self.old.mode) }
-        requires local { StepsLocally run.now part.now self.old }
         requires seed { reader.old.seed ≡ run.now.seed }
         ensures data { (g : RowGraph) → IsPartOf g part.now → self.new ≡ decided (journey_on g run.now part.now.cuts self.old) self.old }
         ensures seed { reader.new.seed ≡ reader.old.seed }
@@ -185,7 +186,7 @@ impl Traveller {
             }
             Mode::Darts { left, place } => {
                 reader.seek(self.number, place);
-                self.mode = choose_mode(part, &run.plan, factors, left, self.state, reader, steps);
+                self.mode = choose_from(part, &run.plan, factors, left, self.state, reader, steps);
             }
             _ => {}
         }
@@ -239,7 +240,6 @@ impl Traveller {
     pub fn advance<L: Ledger>(&mut self, run: &Run, part: &PartRows, steps: &mut Steps<L>) -> Turn
         requires stands { StandsIn run.now part.now self.old }
         requires ready { IsTrue (is_ready self.old.mode) }
-        requires local { StepsLocally run.now part.now self.old }
         ensures data { (g : RowGraph) → IsPartOf g part.now → self.new ≡ advance (parted g run.now part.now.cuts) self.old }
         ensures ticks { (g : RowGraph) → IsPartOf g part.now → steps.new ≡ steps.old + columns_in (parted g run.now part.now.cuts) self.old }
         ensures turn { result ≡ turn_of self.new.mode self.new.state.at }
@@ -251,5 +251,55 @@ impl Traveller {
         self.decide(run, &factors, part, &mut reader, steps);
         self.go(run, part);
         self.turn()
+    }
+
+    /// Hears the reply to the question for which it waits. It stays where it stands, keeps what the reply
+    /// decides, and can go on by itself.
+    pub fn hear(&mut self, run: &Run, part: &PartRows, reply: &Reply)
+        requires stands { StandsIn run.now part.now self.old }
+        requires waits { question_of self.old.mode ≡ Some reply.now.ask.question }
+        requires answers { Answers reply.now.ask.question reply.now.found }
+        ensures data { (g : RowGraph) → IsPartOf g part.now → self.new ≡ hear (parted g run.now part.now.cuts) self.old reply.now.found }
+        ensures ready { IsTrue (is_ready self.new.mode) }
+        ensures stands { StandsIn run.now part.now self.new }
+        ensures stays { self.new ≡ record self.old { mode = self.new.mode } }
+    {
+        match self.mode {
+            Mode::Asked {
+                left,
+                place,
+                question,
+            } => {
+                let factors = near_factors(&run.plan.rule);
+                let near = told_near(reply.ask.question, &reply.found);
+                let mut reader = Streams::new(run.seed).reader(self.number, place);
+                self.mode = hear_edge::<Brand>(
+                    part,
+                    &run.plan,
+                    &factors,
+                    left,
+                    self.state,
+                    asked(question),
+                    near,
+                    &mut reader,
+                    Blank::new(1),
+                );
+            }
+            Mode::AskedRow { place, question } => {
+                let factors = near_factors(&run.plan.rule);
+                let ends = told_ends(reply.ask.question, &reply.found);
+                let mut words = Streams::new(run.seed).reader(self.number, place);
+                self.mode = hear_row(
+                    part,
+                    &run.plan,
+                    &factors,
+                    self.state,
+                    asked(question),
+                    ends,
+                    &mut words,
+                );
+            }
+            _ => {}
+        }
     }
 }

@@ -13,7 +13,7 @@ use Rattle.traveller.specs.declared.far_throwing.Far.TheVariants as far
 use Rattle.traveller.specs.declared.ruling.TypedFactors.TheVariants as typed
 use Rattle.traveller.specs.Choices.{IsChoice}
 use Rattle.traveller.proofs.ChoiceLemmas.{IsNear, choice-after, long-dsts, near-rule}
-use Rattle.traveller.proofs.FarChoice.{IsFar, far-comes, far-here, far-scan-is}
+use Rattle.traveller.proofs.FarChoice.{IsFar, far-comes, far-here, far-reads, far-scan-is}
 use Rattle.traveller.proofs.choosing.choose_far.Goals as goal
 
 pub return_run-run-requires : goal.return_run-run-requires
@@ -109,3 +109,51 @@ bounds-dsts-edge g c =
     let within = c.in-Ask.ensures.within in
     let made : length c.new-board.result.weights ≡ length c.args.table.now = ap (λ (b : ClassBoard). length b.weights) c.new-board.ensures in
     omega (arith, long, made, within.0)
+
+pub returns-in-Take-clause-ticks : goal.returns-in-Take-clause-ticks
+returns-in-Take-clause-ticks g c = λ graph a of asks.
+    let ws : List ℕ = c.args.table.now in
+    let fs : List ℕ = c.args.factors.now in
+    let dsts : List ℕ = c.dsts-dsts.result.now in
+    let run : ℕ × ℕ = c.return_run-run.result in
+    let words : ℕ → ℕ = word c.args.reader.now.seed c.args.reader.now.walker in
+    let reach : length ws * sum ws * greatest_factor c.args.plan.now.rule ≤ 2 ^ 62 =
+    subst (λ (l : List ℕ). length l * sum l * greatest_factor c.args.plan.now.rule ≤ 2 ^ 62) c.requires.weights c.requires.fits in
+    let f : IsFar graph.edges c.args.plan.now c.args.s c.args.back a ws fs dsts run =
+    far-here c.args.part.now graph c.args.plan.now c.args.s c.args.back a ws fs dsts run of c.requires.at asks c.requires.rule c.requires.previous
+    c.requires.weights reach c.weights-weights.ensures.range c.dsts-dsts.ensures.ends c.return_run-run.ensures.run c.return_run-run.ensures.order
+    c.return_run-run.ensures.within in
+    far-reads c.args.left graph.edges c.args.plan.now c.args.s c.args.back a ws fs dsts run words c.args.reader.now.place c.args.steps.now c.throw_far.new.steps
+    c.new-board.result f c.new-board.ensures c.in-Take.ensures.ticks
+
+pub returns-in-Ask-clause-ticks : goal.returns-in-Ask-clause-ticks
+returns-in-Ask-clause-ticks g c = λ graph a of asks.
+    let ws : List ℕ = c.args.table.now in
+    let fs : List ℕ = c.args.factors.now in
+    let dsts : List ℕ = c.dsts-dsts.result.now in
+    let run : ℕ × ℕ = c.return_run-run.result in
+    let words : ℕ → ℕ = word c.args.reader.now.seed c.args.reader.now.walker in
+    let reach : length ws * sum ws * greatest_factor c.args.plan.now.rule ≤ 2 ^ 62 =
+    subst (λ (l : List ℕ). length l * sum l * greatest_factor c.args.plan.now.rule ≤ 2 ^ 62) c.requires.weights c.requires.fits in
+    let f : IsFar graph.edges c.args.plan.now c.args.s c.args.back a ws fs dsts run =
+    far-here c.args.part.now graph c.args.plan.now c.args.s c.args.back a ws fs dsts run of c.requires.at asks c.requires.rule c.requires.previous
+    c.requires.weights reach c.weights-weights.ensures.range c.dsts-dsts.ensures.ends c.return_run-run.ensures.run c.return_run-run.ensures.order
+    c.return_run-run.ensures.within in
+    far-reads c.args.left graph.edges c.args.plan.now c.args.s c.args.back a ws fs dsts run words c.args.reader.now.place c.args.steps.now c.throw_far.new.steps
+    c.new-board.result f c.new-board.ensures c.in-Ask.ensures.ticks
+
+pub returns-in-Spent-clause-ticks : goal.returns-in-Spent-clause-ticks
+returns-in-Spent-clause-ticks g c = λ graph a of asks.
+    let ws : List ℕ = c.args.table.now in
+    let fs : List ℕ = c.args.factors.now in
+    let dsts : List ℕ = c.dsts-dsts.result.now in
+    let run : ℕ × ℕ = c.return_run-run.result in
+    let words : ℕ → ℕ = word c.args.reader.now.seed c.args.reader.now.walker in
+    let reach : length ws * sum ws * greatest_factor c.args.plan.now.rule ≤ 2 ^ 62 =
+    subst (λ (l : List ℕ). length l * sum l * greatest_factor c.args.plan.now.rule ≤ 2 ^ 62) c.requires.weights c.requires.fits in
+    let f : IsFar graph.edges c.args.plan.now c.args.s c.args.back a ws fs dsts run =
+    far-here c.args.part.now graph c.args.plan.now c.args.s c.args.back a ws fs dsts run of c.requires.at asks c.requires.rule c.requires.previous
+    c.requires.weights reach c.weights-weights.ensures.range c.dsts-dsts.ensures.ends c.return_run-run.ensures.run c.return_run-run.ensures.order
+    c.return_run-run.ensures.within in
+    far-reads c.args.left graph.edges c.args.plan.now c.args.s c.args.back a ws fs dsts run words c.args.reader.now.place c.args.steps.now c.throw_far.new.steps
+    c.new-board.result f c.new-board.ensures c.in-Spent.ensures.ticks

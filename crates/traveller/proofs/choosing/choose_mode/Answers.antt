@@ -29,8 +29,8 @@ returns-in-Some-choose_edge-clause-mode g c =
     (word c.args.reader.now.seed c.args.reader.now.walker) c.args.reader.now.place c.in-Some-choose_edge.edge c.choose_edge.new.reader.place
     c.in-Some.ensures.table c.in-Some-choose_edge.ensures.within c.in-Some-choose_edge.ensures.edge
 
-pub returns-in-Some-choose_edge-clause-bound : goal.returns-in-Some-choose_edge-clause-bound
-returns-in-Some-choose_edge-clause-bound g c =
+pub returns-in-Some-choose_edge-clause-inside : goal.returns-in-Some-choose_edge-clause-inside
+returns-in-Some-choose_edge-clause-inside g c =
     let within = c.in-Some-choose_edge.ensures.within in
     let long = ap (λ (l : List ℕ). length l) (sym c.in-Some.ensures.table) ∙ length-weights_of c.args.part.now.weighted (row c.args.part.now.edges c.args.s.at) in
     let next = c.in-Some-choose_edge.ensures.next in

@@ -1,16 +1,15 @@
-use Rattle.std.proofs.Common.{◌≡◌, ◌+◌, true, false, List, None, refl, ap, sym, ◌∙◌, arith}
-use Rattle.walk_model.specs.declared.graph.Edge.{Edge}
+use Rattle.std.proofs.Common.{◌≡◌, ◌+◌, true, false, refl, ap, sym, subst, ◌∙◌, arith}
 use Rattle.walk_model.specs.Words.{word}
-use Rattle.walk_model.specs.Graph.{row}
-use Rattle.walk_model.specs.Dart.{board_of}
+use Rattle.walk_model.specs.Letters.{Journey}
+use Rattle.csr_store.specs.RowGraph.{RowGraph}
 use Rattle.traveller.specs.declared.runs.Run.{Run}
-use Rattle.traveller.specs.Locals.{local_mode}
-use Rattle.traveller.specs.Standing.{journey_on}
+use Rattle.traveller.specs.Askers.{GoesBy}
+use Rattle.traveller.specs.Decided.{IsDecided}
+use Rattle.traveller.specs.Standing.{journey_on, own_graph}
 use Rattle.traveller.specs.Walkers.{Walker, fresh_at}
-use Rattle.traveller.proofs.LocalLemmas.{choice-local}
+use Rattle.traveller.proofs.DecidedLemmas.{own-part, row-decided, choice-from, columns-from}
 use Rattle.traveller.proofs.StepLemmas.{same-coin, coins-stop, coins-back, coins-choice}
-use Rattle.traveller.specs.Ticks.{row_columns}
-use Rattle.traveller.proofs.TurnTicks.{ticks-stop, ticks-back, ticks-choice, ticks-local}
+use Rattle.traveller.proofs.TurnTicks.{ticks-stop, ticks-back, ticks-choice}
 use Rattle.traveller.proofs.deciding.begun.Goals as goal
 
 pub returns-then-coin-clause-data : goal.returns-then-coin-clause-data
@@ -47,16 +46,15 @@ returns-clause-data g c = λ graph start length of.
     c.if-coin-2.false (ap (λ (r : Run). r.plan.restart) c.run.view_is) seed walker refl c.coin-2.ensures.value in
     let later_seed : c.coin-2.new.self.seed ≡ c.args.run.now.seed = ap (λ r. r.seed) c.coin-2.ensures.stream ∙ seed in
     let later_walker : c.coin-2.new.self.walker ≡ c.args.reader.now.walker = ap (λ r. r.walker) c.coin-2.ensures.stream ∙ walker in
-    let out : List Edge = row c.args.part.now.edges c.args.s.at in
+    let j : Journey = journey_on graph c.args.run.now c.args.part.now.cuts w in
     let tries : c.run.inside.0.0.retries ≡ c.args.run.now.plan.retries = ap (λ (r : Run). r.plan.retries) c.run.view_is in
-    let mode : c.choose_mode.result ≡ local_mode c.args.run.now.plan.retries (board_of c.args.part.now.edges c.args.run.now.plan c.args.s out) out
-    (word c.args.run.now.seed c.args.reader.now.walker) c.coin-2.new.self.place =
-    c.choose_mode.ensures.mode
-    ∙ ap (λ n. local_mode n (board_of c.args.part.now.edges c.args.run.now.plan c.args.s out) out (word c.coin-2.new.self.seed c.coin-2.new.self.walker) c.coin-2.new.self.place) tries
-    ∙ ap (λ k. local_mode c.args.run.now.plan.retries (board_of c.args.part.now.edges c.args.run.now.plan c.args.s out) out (word k c.coin-2.new.self.walker) c.coin-2.new.self.place) later_seed
-    ∙ ap (λ k. local_mode c.args.run.now.plan.retries (board_of c.args.part.now.edges c.args.run.now.plan c.args.s out) out (word c.args.run.now.seed k) c.coin-2.new.self.place) later_walker in
-    coins-choice (journey_on graph c.args.run.now c.args.part.now.cuts w) w c.coin.new.self.place c.coin-2.new.self.place c.choose_mode.result stop restart
-    (mode ∙ choice-local graph c.args.run.now c.args.part.now w c.args.s c.coin-2.new.self.place of c.requires.at c.requires.local)
+    let own : word c.args.run.now.seed c.args.reader.now.walker ≡ word c.coin-2.new.self.seed c.coin-2.new.self.walker =
+    sym (ap (λ k. word k c.coin-2.new.self.walker) later_seed ∙ ap (word c.args.run.now.seed) later_walker) in
+    let goes : GoesBy graph c.args.part.now c.args.run.now.plan (word c.coin-2.new.self.seed c.coin-2.new.self.walker) j =
+    record { edges = refl; plan_is = refl; words_are = own; owners = λ v. refl } in
+    coins-choice j w c.coin.new.self.place c.coin-2.new.self.place c.choose_from.result stop restart
+    (choice-from j c.args.s c.run.inside.0.0.retries c.coin-2.new.self.place (word c.coin-2.new.self.seed c.coin-2.new.self.walker) c.choose_from.result tries own
+    (c.choose_from.ensures.mode graph j of goes))
 
 pub returns-then-coin-clause-ticks : goal.returns-then-coin-clause-ticks
 returns-then-coin-clause-ticks g c = λ graph start length of.
@@ -93,14 +91,31 @@ returns-clause-ticks g c = λ graph start length of.
     c.if-coin-2.false (ap (λ (r : Run). r.plan.restart) c.run.view_is) seed walker refl c.coin-2.ensures.value in
     let later_seed : c.coin-2.new.self.seed ≡ c.args.run.now.seed = ap (λ r. r.seed) c.coin-2.ensures.stream ∙ seed in
     let later_walker : c.coin-2.new.self.walker ≡ c.args.reader.now.walker = ap (λ r. r.walker) c.coin-2.ensures.stream ∙ walker in
-    let out : List Edge = row c.args.part.now.edges c.args.s.at in
+    let j : Journey = journey_on graph c.args.run.now c.args.part.now.cuts w in
     let tries : c.run.inside.0.0.retries ≡ c.args.run.now.plan.retries = ap (λ (r : Run). r.plan.retries) c.run.view_is in
-    let read : c.choose_mode.new.steps ≡ c.args.steps.now + row_columns c.args.run.now.plan.retries None (board_of c.args.part.now.edges c.args.run.now.plan c.args.s out) out
-    (word c.args.run.now.seed c.args.reader.now.walker) c.coin-2.new.self.place =
-    c.choose_mode.ensures.ticks
-    ∙ ap (λ n. c.args.steps.now + row_columns n None (board_of c.args.part.now.edges c.args.run.now.plan c.args.s out) out (word c.coin-2.new.self.seed c.coin-2.new.self.walker) c.coin-2.new.self.place) tries
-    ∙ ap (λ k. c.args.steps.now + row_columns c.args.run.now.plan.retries None (board_of c.args.part.now.edges c.args.run.now.plan c.args.s out) out (word k c.coin-2.new.self.walker) c.coin-2.new.self.place) later_seed
-    ∙ ap (λ k. c.args.steps.now + row_columns c.args.run.now.plan.retries None (board_of c.args.part.now.edges c.args.run.now.plan c.args.s out) out (word c.args.run.now.seed k) c.coin-2.new.self.place) later_walker in
-    read
-    ∙ ap (λ n. c.args.steps.now + n) (ticks-local graph c.args.run.now c.args.part.now w c.args.s c.coin-2.new.self.place of c.requires.at c.requires.local)
-    ∙ sym (ap (λ n. c.args.steps.now + n) (ticks-choice (journey_on graph c.args.run.now c.args.part.now.cuts w) c.args.s c.coin.new.self.place c.coin-2.new.self.place stop restart))
+    let own : word c.args.run.now.seed c.args.reader.now.walker ≡ word c.coin-2.new.self.seed c.coin-2.new.self.walker =
+    sym (ap (λ k. word k c.coin-2.new.self.walker) later_seed ∙ ap (word c.args.run.now.seed) later_walker) in
+    let goes : GoesBy graph c.args.part.now c.args.run.now.plan (word c.coin-2.new.self.seed c.coin-2.new.self.walker) j =
+    record { edges = refl; plan_is = refl; words_are = own; owners = λ v. refl } in
+    columns-from j c.args.s c.run.inside.0.0.retries c.coin-2.new.self.place c.args.steps.now c.choose_from.new.steps (word c.coin-2.new.self.seed c.coin-2.new.self.walker) tries own
+    (c.choose_from.ensures.ticks graph j of goes)
+    ∙ sym (ap (λ n. c.args.steps.now + n) (ticks-choice j c.args.s c.coin.new.self.place c.coin-2.new.self.place stop restart))
+
+pub returns-clause-bound : goal.returns-clause-bound
+returns-clause-bound g c =
+    let graph : RowGraph = own_graph c.args.part.now in
+    let w : Walker = fresh_at c.args.reader.now.walker 0 0 c.args.s in
+    let j : Journey = journey_on graph c.args.run.now c.args.part.now.cuts w in
+    let tries : c.run.inside.0.0.retries ≡ c.args.run.now.plan.retries = ap (λ (r : Run). r.plan.retries) c.run.view_is in
+    let seed : c.coin-2.new.self.seed ≡ c.args.run.now.seed = ap (λ r. r.seed) c.coin-2.ensures.stream ∙ ap (λ r. r.seed) c.coin.ensures.stream ∙ c.requires.seed in
+    let walker : c.coin-2.new.self.walker ≡ c.args.reader.now.walker = ap (λ r. r.walker) c.coin-2.ensures.stream ∙ ap (λ r. r.walker) c.coin.ensures.stream in
+    let own : word c.args.run.now.seed c.args.reader.now.walker ≡ word c.coin-2.new.self.seed c.coin-2.new.self.walker =
+    sym (ap (λ k. word k c.coin-2.new.self.walker) seed ∙ ap (word c.args.run.now.seed) walker) in
+    let goes : GoesBy graph c.args.part.now c.args.run.now.plan (word c.coin-2.new.self.seed c.coin-2.new.self.walker) j =
+    record { edges = refl; plan_is = refl; words_are = own; owners = λ v. refl } in
+    let one = c.coin.ensures.next in
+    let two = c.coin-2.ensures.next in
+    let place = c.requires.place in
+    subst (λ n. IsDecided j c.args.s n (c.args.s.place + 1128) c.choose_from.result) tries
+    (row-decided j c.args.s c.run.inside.0.0.retries c.coin-2.new.self.place (c.args.s.place + 1128) (word c.coin-2.new.self.seed c.coin-2.new.self.walker) c.choose_from.result own
+    (omega (arith, one, two, place)) (c.choose_from.ensures.mode graph j (own-part c.args.part.now) goes) c.choose_from.ensures.inside)

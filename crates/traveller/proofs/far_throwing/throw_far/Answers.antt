@@ -10,6 +10,9 @@ use Rattle.traveller.specs.declared.modes.Mode.TheVariants.{Asked, Chosen}
 use Rattle.traveller.specs.Far.{Tells}
 use Rattle.traveller.specs.Turns.{edge_question, throws}
 use Rattle.traveller.proofs.FarLemmas.{far-take, far-passed, far-ask, far-spent}
+use Rattle.traveller.proofs.FarTicks.{asked-spent, asked-hit, asked-asks, asked-passed}
+use Rattle.traveller.proofs.TickLemmas.{column-read}
+use Rattle.traveller.specs.Ticks.{dart_column, columns}
 use Rattle.traveller.proofs.far_throwing.throw_far.Goals as goal
 
 pub returns-in-Take-clause-mode : goal.returns-in-Take-clause-mode
@@ -43,6 +46,47 @@ returns-in-Need-clause-mode g c = λ a classes suits tell.
     ∙ far-ask c.loop-left.left left a b words c.loop-left.reader.place (question.Edge a.before (slice_index a.ends c.in-Need.edge)) left_is asks
     ∙ ap (λ p. Asked left p (question.Edge a.before (slice_index a.ends c.in-Need.edge))) (sym (ap (λ r. r.place) c.peek-word.ensures.stays))
 
+pub returns-in-Take-clause-ticks : goal.returns-in-Take-clause-ticks
+unfolding settled
+returns-in-Take-clause-ticks g c = λ a classes suits tell.
+    let b : Board = board_by c.args.board.now classes in
+    let words : ℕ → ℕ = word c.args.reader.now.seed c.args.reader.now.walker in
+    let left : ℕ = c.loop-left.left - 1 in
+    let left_is : c.loop-left.left ≡ suc left = (let some = c.loop-left-test.true in omega (arith, some)) in
+    let told : c.peek-word.result ≡ words c.loop-left.reader.place =
+    rw (← c.loop-left.invariant.seed, ← c.loop-left.invariant.walker) c.peek-word.ensures.word in
+    let found : verdict_of c.args.board.now (words c.loop-left.reader.place) ≡ verdict.Take c.in-Take.edge = sym (c.in-Take.ensures.verdict ∙ ap (verdict_of c.args.board.now) told) in
+    let both : Tells a (edge_question (Some a) b (words c.loop-left.reader.place)) (verdict.Take c.in-Take.edge) = subst (Tells a (edge_question (Some a) b (words c.loop-left.reader.place))) found (tell (words c.loop-left.reader.place)) in
+    let read : c.throw.new.steps ≡ c.loop-left.steps + dart_column b (words c.loop-left.reader.place) =
+    c.in-Take.ensures.cost ∙ ap (λ k. c.loop-left.steps + k) (column-read c.args.board.now classes c.peek-word.result ∙ ap (dart_column b) told) in
+    let last = asked-hit c.loop-left.left left (Some a) b words c.loop-left.reader.place c.in-Take.edge left_is both (ap (hit b) (sym told) ∙ c.in-Take.ensures.hit classes suits) in
+    let rest = c.loop-left.invariant.ticks a classes suits tell in
+    omega (arith, read, last, rest)
+
+pub returns-in-Need-clause-ticks : goal.returns-in-Need-clause-ticks
+returns-in-Need-clause-ticks g c = λ a classes suits tell.
+    let b : Board = board_by c.args.board.now classes in
+    let words : ℕ → ℕ = word c.args.reader.now.seed c.args.reader.now.walker in
+    let left : ℕ = c.loop-left.left - 1 in
+    let left_is : c.loop-left.left ≡ suc left = (let some = c.loop-left-test.true in omega (arith, some)) in
+    let told : c.peek-word.result ≡ words c.loop-left.reader.place =
+    rw (← c.loop-left.invariant.seed, ← c.loop-left.invariant.walker) c.peek-word.ensures.word in
+    let found : verdict_of c.args.board.now (words c.loop-left.reader.place) ≡ verdict.Need c.in-Need.edge c.in-Need.height = sym (c.in-Need.ensures.verdict ∙ ap (verdict_of c.args.board.now) told) in
+    let asks : Tells a (edge_question (Some a) b (words c.loop-left.reader.place)) (verdict.Need c.in-Need.edge c.in-Need.height) = subst (Tells a (edge_question (Some a) b (words c.loop-left.reader.place))) found (tell (words c.loop-left.reader.place)) in
+    let read : c.throw.new.steps ≡ c.loop-left.steps + dart_column b (words c.loop-left.reader.place) =
+    c.in-Need.ensures.cost ∙ ap (λ k. c.loop-left.steps + k) (column-read c.args.board.now classes c.peek-word.result ∙ ap (dart_column b) told) in
+    let last = asked-asks c.loop-left.left left (Some a) b words c.loop-left.reader.place (question.Edge a.before (slice_index a.ends c.in-Need.edge)) left_is asks in
+    let rest = c.loop-left.invariant.ticks a classes suits tell in
+    omega (arith, read, last, rest)
+
+pub returns-clause-ticks : goal.returns-clause-ticks
+returns-clause-ticks g c = λ a classes suits tell.
+    let b : Board = board_by c.args.board.now classes in
+    let none : c.loop-left.left ≡ 0 = (let test = c.loop-left-test.false in omega (arith, test)) in
+    let spent = asked-spent c.loop-left.left (Some a) b (word c.args.reader.now.seed c.args.reader.now.walker) c.loop-left.reader.place none in
+    let rest = c.loop-left.invariant.ticks a classes suits tell in
+    omega (arith, spent, rest)
+
 pub returns-in-Need-clause-within : goal.returns-in-Need-clause-within
 returns-in-Need-clause-within g c =
     let some = c.loop-left-test.true in
@@ -75,6 +119,15 @@ loop-left-preserved-in-Miss g c =
           ap (throws left (Some a) b words) step
           ∙ sym (far-passed c.loop-left.left left a b words c.loop-left.reader.place left_is both (ap (hit b) (sym told) ∙ c.in-Miss.ensures.hit classes suits))
           ∙ c.loop-left.invariant.rest a classes suits tell);
+      ticks = λ a classes suits tell.
+          (let b : Board = board_by c.args.board.now classes in
+          let both : Tells a (edge_question (Some a) b (words c.loop-left.reader.place)) verdict.Miss = subst (Tells a (edge_question (Some a) b (words c.loop-left.reader.place))) found (tell (words c.loop-left.reader.place)) in
+          let read : c.throw.new.steps ≡ c.loop-left.steps + dart_column b (words c.loop-left.reader.place) =
+          c.in-Miss.ensures.cost ∙ ap (λ k. c.loop-left.steps + k) (column-read c.args.board.now classes c.peek-word.result ∙ ap (dart_column b) told) in
+          let passed = asked-passed c.loop-left.left left (Some a) b words c.loop-left.reader.place left_is both (ap (hit b) (sym told) ∙ c.in-Miss.ensures.hit classes suits) in
+          let rest = c.loop-left.invariant.ticks a classes suits tell in
+          let next = ap (columns left (Some a) b words) step in
+          omega (arith, read, passed, rest, next));
     }
 
 pub loop-left-preserved : goal.loop-left-preserved
@@ -102,6 +155,15 @@ loop-left-preserved g c =
           ap (throws left (Some a) b words) step
           ∙ sym (far-passed c.loop-left.left left a b words c.loop-left.reader.place left_is both (ap (hit b) (sym told) ∙ c.in-Turned.ensures.hit classes suits))
           ∙ c.loop-left.invariant.rest a classes suits tell);
+      ticks = λ a classes suits tell.
+          (let b : Board = board_by c.args.board.now classes in
+          let both : Tells a (edge_question (Some a) b (words c.loop-left.reader.place)) verdict.Turned = subst (Tells a (edge_question (Some a) b (words c.loop-left.reader.place))) found (tell (words c.loop-left.reader.place)) in
+          let read : c.throw.new.steps ≡ c.loop-left.steps + dart_column b (words c.loop-left.reader.place) =
+          c.in-Turned.ensures.cost ∙ ap (λ k. c.loop-left.steps + k) (column-read c.args.board.now classes c.peek-word.result ∙ ap (dart_column b) told) in
+          let passed = asked-passed c.loop-left.left left (Some a) b words c.loop-left.reader.place left_is both (ap (hit b) (sym told) ∙ c.in-Turned.ensures.hit classes suits) in
+          let rest = c.loop-left.invariant.ticks a classes suits tell in
+          let next = ap (columns left (Some a) b words) step in
+          omega (arith, read, passed, rest, next));
     }
 
 pub returns-clause-mode : goal.returns-clause-mode

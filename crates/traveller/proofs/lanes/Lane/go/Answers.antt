@@ -1,6 +1,4 @@
 use Rattle.std.proofs.Common.{◌≡◌}
-use Rattle.traveller.specs.declared.runs.Run.{Run}
-use Rattle.vertex_partition.specs.PartViews.{PartView}
 use Rattle.traveller.proofs.lanes.Lane.go.Goals as goal
 
 pub returns-clause-stands : goal.returns-clause-stands
