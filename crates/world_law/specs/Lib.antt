@@ -1,0 +1,13 @@
+pub mod Crews
+pub mod Events
+pub mod Finishing
+pub mod Histories
+pub mod Items
+pub mod LettersAhead
+pub mod LettersLeft
+pub mod PartRuns
+pub mod Rounds
+pub mod Soundness
+pub mod Truth
+pub mod TurnsOf
+pub mod Worlds
