@@ -1,15 +1,7 @@
 use Rattle.std.proofs.Common.{◌<◌, length, arith}
 use Rattle.shard_core.specs.Abreast.{Decides}
-use Rattle.shard_core.proofs.AbreastLemmas.{local-all}
 use Rattle.shard_core.proofs.EachLemmas.{so-far-more}
 use Rattle.shard_core.proofs.abreast.decide_each.Goals as goal
-
-pub decide-requires-clause-local : goal.decide-requires-clause-local
-decide-requires-clause-local g c =
-    let so_far = c.loop-lane.invariant in
-    let low : c.loop-lane.lane-index < length c.args.lanes.now = omega (arith, so_far.long) in
-    rw (so_far.behind c.loop-lane.lane-index c.lane-item.result (omega arith))
-    (local-all c.args.here.now.run c.args.here.now.part _ c.requires.all (c.requires.on_way c.loop-lane.lane-index c.lane-item.result low).stands.within)
 
 pub loop-lane-preserved : goal.loop-lane-preserved
 loop-lane-preserved g c =
