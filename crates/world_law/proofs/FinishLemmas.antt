@@ -1,6 +1,6 @@
 -- A world goes on while a walker is unfinished, and its prints are the walks when all have finished.
-use Rattle.std.proofs.Common.{◌≡◌, ℕ, zero, suc, ◌+◌, ◌-◌, ◌<◌, ◌≤◌, true, cond, List, [], ◌∷◌, ◌++◌, map, length, take, refl, ap, sym, ◌∙◌, arith, None, subst}
-use Rattle.std.specs.Prelude.{option_map, slice_index, sum_by, nat_lt}
+use Rattle.std.proofs.Common.{◌≡◌, ℕ, zero, suc, ◌+◌, ◌-◌, ◌<◌, ◌≤◌, Bool, true, false, cond, List, [], ◌∷◌, ◌++◌, map, length, take, refl, ap, sym, ◌∙◌, arith, None, subst}
+use Rattle.std.specs.Prelude.{option_map, slice_index, sum_by, nat_lt, ◌==◌, if◌then◌else◌}
 use Rattle.std.proofs.lemmas.List.Sums.{sum_by-cons, sum_by-append}
 use Rattle.std.proofs.lemmas.List.{length-drop}
 use Rattle.std.proofs.lemmas.Bool.{lt-ltb}
@@ -21,7 +21,8 @@ use Rattle.world_law.specs.Truth.{next_within, IsTrueTo}
 use Rattle.world_law.specs.Worlds.{Piece, Resident, Aside, Printed, Comes, Goes, ShardData, WorldData, shard_pieces, all_pieces, world_pieces, Each}
 use Rattle.world_law.specs.Soundness.{item_walker, of_walker, ask_weight, of_open, item_ask, of_sent, of_print, steps_made, IsTruePiece, IsTrueItem, IsSound}
 use Rattle.world_law.specs.Histories.{walk_prints}
-use Rattle.world_law.specs.Finishing.{unfinished_mode, unfinished, of_ready, of_item, of_kept, walker_prints, prints_so_far, prints_in}
+use Rattle.world_law.specs.LettersAhead.{item_of, of_come, of_gone}
+use Rattle.world_law.specs.Finishing.{unfinished_mode, unfinished, unfinished_of, of_ready, ready_of, of_item, of_kept, walker_prints, prints_so_far, prints_in}
 use Rattle.world_law.proofs.SoundLemmas.{drop-entries, walk-entry}
 
 abbrev one_each : Ask → ℕ
@@ -79,6 +80,64 @@ pieces-le owner (p ∷ ps) =
 pub unfinished-le : (g : PartedRun) (ps : List Piece) → IsSound g ps
     → sum_by (of_walker unfinished) ps ≤ sum_by of_ready ps + sum_by of_item ps
 unfinished-le g ps h = omega (arith, pieces-le g.owner ps, h.asks one_each)
+
+-- the same of one walker
+abbrev ask_in : ℕ → Ask → ℕ
+ask_in i a = if a.walker == i then 1 else 0
+
+mode-le_of : (owner : ℕ → ℕ) (i : ℕ) (v : Walker) (m : Mode)
+    → (if v.number == i then unfinished_mode m else 0)
+    ≤ (if v.number == i then cond (is_ready m) 1 0 else 0) + ask_weight (ask_in i) (option_map (ask_with owner v) (question_of m))
+mode-le_of owner i v Fresh = omega arith
+mode-le_of owner i v (Darts left place) = omega arith
+mode-le_of owner i v (Asked left place q) = omega arith
+mode-le_of owner i v (AskedRow place q) = omega arith
+mode-le_of owner i v (Chosen edge place) = omega arith
+mode-le_of owner i v Over = over (v.number == i)
+  where
+    over : (b : Bool) → (if◌then◌else◌ {A = ℕ} b 0 0) ≤ (if◌then◌else◌ {A = ℕ} b 0 0) + 0
+    over true = omega arith
+    over false = omega arith
+
+item-le_of : (i : ℕ) (m : Item) → item_walker (unfinished_of i) m + item_ask (ask_in i) m ≤ item_of i m
+item-le_of i (Travels v from to) = by (v.number == i)
+  where
+    by : (b : Bool) → (if b then unfinished_mode v.mode else 0) + 0 ≤ (if b then 1 else 0)
+    by true = omega (arith, mode-one v.mode)
+    by false = omega arith
+item-le_of i (Asks ask to) = omega arith
+item-le_of i (Replies reply from) = omega arith
+
+piece-le_of : (owner : ℕ → ℕ) (i : ℕ) (p : Piece)
+    → of_walker (unfinished_of i) p + of_sent (ask_in i) p
+    ≤ ready_of i p + of_open owner (ask_in i) p + (of_come i p + of_gone i p)
+piece-le_of owner i (Resident k v) = omega (arith, mode-le_of owner i v v.mode)
+piece-le_of owner i (Printed k p) = omega arith
+piece-le_of owner i (Aside k m) = omega (arith, item-le_of i m)
+piece-le_of owner i (Comes m) = omega (arith, item-le_of i m)
+piece-le_of owner i (Goes m) = omega (arith, item-le_of i m)
+
+pieces-le_of : (owner : ℕ → ℕ) (i : ℕ) (ps : List Piece)
+    → sum_by (of_walker (unfinished_of i)) ps + sum_by (of_sent (ask_in i)) ps
+    ≤ sum_by (ready_of i) ps + sum_by (of_open owner (ask_in i)) ps + (sum_by (of_come i) ps + sum_by (of_gone i) ps)
+pieces-le_of owner i [] = omega arith
+pieces-le_of owner i (p ∷ ps) =
+    omega (
+      arith,
+      piece-le_of owner i p,
+      pieces-le_of owner i ps,
+      sum_by-cons (of_walker (unfinished_of i)) p ps,
+      sum_by-cons (of_sent (ask_in i)) p ps,
+      sum_by-cons (ready_of i) p ps,
+      sum_by-cons (of_open owner (ask_in i)) p ps,
+      sum_by-cons (of_come i) p ps,
+      sum_by-cons (of_gone i) p ps,
+    )
+
+-- each unfinished walker is a resident that is ready, or an item is its own
+pub unfinished_of-le : (g : PartedRun) (i : ℕ) (ps : List Piece) → IsSound g ps
+    → sum_by (of_walker (unfinished_of i)) ps ≤ sum_by (ready_of i) ps + (sum_by (of_come i) ps + sum_by (of_gone i) ps)
+unfinished_of-le g i ps h = omega (arith, pieces-le_of g.owner i ps, h.asks (ask_in i))
 
 -- a walk that is over has as many entries as steps, and its start
 length-over : (g : PartedRun) (v : Walker) → IsTrueTo g v → v.mode ≡ Over → length (walk_in g v.number) ≡ suc v.state.steps

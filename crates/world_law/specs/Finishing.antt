@@ -21,6 +21,14 @@ abbrev pub of_ready : Piece → ℕ
 of_ready (Resident k v) = if is_ready v.mode then 1 else 0
 of_ready _ = 0
 
+-- the same of walker i
+abbrev pub unfinished_of : ℕ → Walker → ℕ
+unfinished_of i v = if v.number == i then unfinished v else 0
+
+abbrev pub ready_of : ℕ → Piece → ℕ
+ready_of i (Resident k v) = if v.number == i then of_ready (Resident k v) else 0
+ready_of i _ = 0
+
 -- 1 for an item, set aside or in flight
 abbrev pub of_item : Piece → ℕ
 of_item (Resident k v) = 0

@@ -1,4 +1,4 @@
-use Rattle.world_law.proofs.FinishLemmas.{unfinished-le, kept-prints, prints-over, finish-prints, world-prints}
+use Rattle.world_law.proofs.FinishLemmas.{unfinished-le, unfinished_of-le, kept-prints, prints-over, finish-prints, world-prints}
 use Rattle.world_law.proofs.laws.finish_law.Goals as goal
 
 pub returns-clause-onward : goal.returns-clause-onward
@@ -15,3 +15,6 @@ returns-clause-over c = prints-over
 
 pub returns-clause-world : goal.returns-clause-world
 returns-clause-world c = world-prints
+
+pub returns-clause-each : goal.returns-clause-each
+returns-clause-each c = unfinished_of-le
