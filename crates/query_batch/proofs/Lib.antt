@@ -1,0 +1,4 @@
+mod RisingLemmas
+mod NumberLemmas
+mod DistinctLemmas
+mod PlaceLemmas
