@@ -1,7 +1,6 @@
 -- All parcels, sorted by addressee.
-use Rattle.std.proofs.Common.{◌≡◌, ℕ, ◌<◌, ◌≤◌, Bool, true, false, not, ◌&&◌, List, [], ◌∷◌, ◌++◌, map, length, nat_eq, refl, sym, ◌∙◌, ap, subst, arith}
-use Rattle.std.specs.Prelude.{All, filter, ◌==◌}
-use Rattle.std.specs.List.{flat_map}
+use Rattle.std.proofs.Common.{◌≡◌, ℕ, Bool, not, ◌&&◌, List, [], ◌∷◌, ◌++◌, refl, sym, ◌∙◌, arith}
+use Rattle.std.specs.Prelude.{◌==◌}
 use Rattle.std.specs.List.Sorted.{IsPermutation, IsNonDecreasingBy, IsStableByKey, ties}
 use Rattle.std.specs.Ordering.{is_lt, nat_cmp}
 use Rattle.std.proofs.lemmas.Bool.Decides.{nat_tests}
@@ -12,7 +11,7 @@ use Rattle.std.proofs.lemmas.List.Sorted.{length_permutation, All-permutation, I
 use Rattle.walker_mail.specs.declared.parcels.Addressed.{Addressed}
 use Rattle.walker_mail.specs.declared.parcels.Parcel.{Parcel}
 use Rattle.walker_mail.specs.Posts.{items_of, all_items, sent_from}
-use Rattle.walker_mail.specs.Packing.{IsCut, IsPacked, IsPacking, items_to, parcels_to, contents}
+use Rattle.walker_mail.specs.Packing.{IsPacked, IsPacking, parcels_to, contents}
 use Rattle.walker_mail.proofs.MoveLemmas.{IsPermutation-flat_map}
 
 -- numbers of which neither is less than the other are the same

@@ -1,11 +1,9 @@
 -- One more item is packed.
-use Rattle.std.proofs.Common.{◌≡◌, ℕ, suc, ◌+◌, ◌<◌, ◌≤◌, Bool, true, false, cond, List, [], ◌∷◌, ◌++◌, map, length, take, drop, get_or, nat_eq, refl, sym, ◌∙◌, ap, subst, arith, append_assoc}
-use Rattle.std.proofs.Math.ListN.{set}
+use Rattle.std.proofs.Common.{◌≡◌, ℕ, ◌<◌, ◌≤◌, Bool, true, false, List, [], ◌∷◌, ◌++◌, map, length, refl, ◌∙◌, ap, append_assoc}
 use Rattle.std.specs.Prelude.{All, filter, ◌==◌}
-use Rattle.std.specs.List.{flat_map, insert}
-use Rattle.std.specs.List.Sorted.{IsPermutation, IsNonDecreasingBy}
+use Rattle.std.specs.List.Sorted.{IsPermutation}
 use Rattle.std.proofs.lemmas.Bool.{eqb-true}
-use Rattle.std.proofs.lemmas.List.{map-append, append-nil, set-get_or, set_split, take-append-drop}
+use Rattle.std.proofs.lemmas.List.{map-append, append-nil}
 use Rattle.std.proofs.lemmas.List.Concat.{flat_map-append}
 use Rattle.std.proofs.lemmas.List.Elements.{All-cons, All-head, All-tail, All-append, All-push, All-map, All-filter, filter-append}
 use Rattle.std.proofs.lemmas.List.Sorted.{IsPermutation-trans, IsPermutation-append_left, IsPermutation-append_right, IsPermutation-append_comm}
@@ -13,9 +11,9 @@ use Rattle.walker_mail.specs.declared.parcels.Addressed.{Addressed}
 use Rattle.walker_mail.specs.declared.parcels.Parcel.{Parcel}
 use Rattle.walker_mail.specs.declared.parcels.Posted.{Posted}
 use Rattle.walker_mail.specs.Posts.{posted_item, items_of, all_items, sent_from}
-use Rattle.walker_mail.specs.Packing.{IsCut, IsPacking, Rises, items_to, parcels_to, contents}
-use Rattle.walker_mail.proofs.CutLemmas.{All-front, All-back, cut_more, cut_grow, filter_none}
-use Rattle.walker_mail.proofs.MoveLemmas.{perm_put, blocks_swapped}
+use Rattle.walker_mail.specs.Packing.{IsCut, IsPacking, items_to, parcels_to, contents}
+use Rattle.walker_mail.proofs.CutLemmas.{All-front, All-back, cut_more, cut_grow}
+use Rattle.walker_mail.proofs.MoveLemmas.{perm_put}
 use Rattle.walker_mail.proofs.RiseLemmas.{rises_put, rises_in, rises_behind, none_below, none_above}
 
 -- the items of an addressee, with one more item that is its own, and with one of another

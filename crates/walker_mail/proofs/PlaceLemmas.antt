@@ -1,11 +1,11 @@
 -- The place of an addressee among the last parcels.
-use Rattle.std.proofs.Common.{◌≡◌, ℕ, suc, ◌+◌, ◌<◌, ◌≤◌, Bool, true, false, List, [], ◌∷◌, ◌++◌, length, take, drop, get_or, nat_lt, refl, sym, ◌∙◌, ap, subst, arith, min, drop-cons}
+use Rattle.std.proofs.Common.{◌≡◌, ℕ, suc, ◌<◌, ◌≤◌, true, false, List, [], ◌∷◌, ◌++◌, length, take, drop, get_or, nat_lt, sym, ◌∙◌, ap, subst, arith, drop-cons}
 use Rattle.std.proofs.Math.ListN.{set}
 use Rattle.std.specs.Prelude.{All}
 use Rattle.std.specs.List.{insert, AllWithin}
 use Rattle.std.proofs.lemmas.Bool.{ltb-true, ltb-false}
-use Rattle.std.proofs.lemmas.List.{length-take, get_or-take, set-get_or, set_split, take-append-drop, drop_all}
-use Rattle.std.proofs.lemmas.List.Elements.{All-nil, All-cons, All-weaker}
+use Rattle.std.proofs.lemmas.List.{length-take, get_or-take, set-get_or, set_split, take-append-drop}
+use Rattle.std.proofs.lemmas.List.Elements.{All-cons, All-weaker}
 use Rattle.walker_mail.specs.declared.parcels.Addressed.{Addressed}
 use Rattle.walker_mail.specs.declared.parcels.Parcel.{Parcel}
 use Rattle.walker_mail.specs.Packing.{IsPacking, Rises}

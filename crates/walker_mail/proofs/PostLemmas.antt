@@ -8,7 +8,6 @@ use Rattle.std.proofs.lemmas.List.Concat.{flat_map-append}
 use Rattle.std.proofs.lemmas.List.Edits.{map_over_more}
 use Rattle.walk_model.specs.declared.messages.Letter.{Letter}
 use Rattle.walker_mail.specs.declared.parcels.Parcel.{Parcel}
-use Rattle.walker_mail.specs.declared.parcels.Posted.{Posted}
 use Rattle.walker_mail.specs.Posts.{posted_item, items_of, all_items, letters_of}
 
 -- the items of the parcels from one on are its own and those of the parcels behind it

@@ -1,9 +1,9 @@
 -- Parcels by strictly rising addressee.
-use Rattle.std.proofs.Common.{◌≡◌, ℕ, zero, suc, ◌+◌, ◌<◌, ◌≤◌, Bool, true, false, List, [], ◌∷◌, ◌++◌, length, get_or, refl, sym, ap, subst, arith, nat_eq}
-use Rattle.std.specs.Prelude.{All, filter, ◌==◌}
+use Rattle.std.proofs.Common.{◌≡◌, ℕ, zero, suc, ◌<◌, false, List, [], ◌∷◌, ◌++◌, get_or, arith}
+use Rattle.std.specs.Prelude.{All, ◌==◌}
 use Rattle.std.specs.List.Sorted.{IsNonDecreasingBy}
 use Rattle.std.proofs.lemmas.Bool.{ne_eqb}
-use Rattle.std.proofs.lemmas.List.Elements.{All-nil, All-cons, All-head, All-tail, All-append, All-weaker, All-get_or, filter-append}
+use Rattle.std.proofs.lemmas.List.Elements.{All-cons, All-head, All-tail, All-append, All-weaker}
 use Rattle.walker_mail.specs.declared.parcels.Parcel.{Parcel}
 use Rattle.walker_mail.specs.Packing.{Rises, parcels_to}
 use Rattle.walker_mail.proofs.CutLemmas.{All-front, All-back, filter_none}

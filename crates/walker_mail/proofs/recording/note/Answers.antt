@@ -1,4 +1,4 @@
-use Rattle.std.proofs.Common.{◌≡◌, ◌∙◌, take, rules}
+use Rattle.std.proofs.Common.{◌≡◌, ◌∙◌, take}
 use Rattle.std.proofs.lemmas.List.{take_all}
 use Rattle.walker_mail.proofs.PostLemmas.{letters_of_parcel}
 use Rattle.walker_mail.proofs.recording.note.Goals as goal

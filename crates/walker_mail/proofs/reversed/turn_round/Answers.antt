@@ -1,4 +1,4 @@
-use Rattle.std.proofs.Common.{◌≡◌, ◌<◌, ◌∙◌, length, sym, ap, rules, arith}
+use Rattle.std.proofs.Common.{rules, arith}
 use Rattle.std.proofs.lemmas.Grind.{common_steps}
 use Rattle.walker_mail.proofs.PostLemmas.{turned_more, turned_all}
 use Rattle.walker_mail.proofs.reversed.turn_round.Goals as goal
