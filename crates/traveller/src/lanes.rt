@@ -9,6 +9,7 @@ use crate::here::WalkPart;
 use crate::runs::Run;
 use crate::travellers::Traveller;
 use std::marker::Model;
+use std::mem;
 use std::sync::ledger::Ledger;
 use walk_model::{Print, Steps};
 use walker_stream::{StreamReader, Streams};
@@ -61,6 +62,29 @@ impl Lane {
         let _run = run;
         self.words.seek(traveller.number(), 0);
         self.traveller = traveller;
+    }
+
+    /// Another traveller of a run, wherever it stands, takes the place of the one that was there, which is given
+    /// back.
+    pub fn change(&mut self, traveller: Traveller) -> Traveller
+        ensures next { self.new ≡ traveller }
+        ensures before { result ≡ self.old }
+    {
+        self.words.seek(traveller.number(), traveller.next_place());
+        mem::replace(&mut self.traveller, traveller)
+    }
+
+    /// The traveller of the lane, which is given up.
+    pub fn into_traveller(self) -> Traveller
+        ensures { result ≡ self }
+    {
+        let Lane {
+            traveller,
+            words: _,
+            column: _,
+            read: _,
+        } = self;
+        traveller
     }
 
     /// Whether the walk of its traveller has ended.

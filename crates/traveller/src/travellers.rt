@@ -100,6 +100,18 @@ impl Traveller {
         self.state.steps
     }
 
+    /// The place of the next word that it takes.
+    pub(crate) fn next_place(&self) -> u64 {
+        match self.mode {
+            Mode::Fresh => self.state.place,
+            Mode::Darts { place, .. } => place,
+            Mode::Asked { place, .. } => place,
+            Mode::AskedRow { place, .. } => place,
+            Mode::Chosen { place, .. } => place,
+            Mode::Over => self.state.place,
+        }
+    }
+
     /// The question whose reply it waits for, exactly while it waits.
     #[inline]
     pub fn question(&self) -> Option<Question>
