@@ -36,7 +36,7 @@ use Rattle.traveller.specs.Walkers.{Walker, first_walker, is_fresh, is_over, is_
 use Rattle.traveller.proofs.LocalLemmas.{asker-none}
 use Rattle.traveller.proofs.StepLaws.{turned-step, ahead-step, next-more}
 use Rattle.traveller.proofs.TurnLemmas.{halves}
-use Rattle.shard_core.specs.Abreast.{OwnsAll, IsOnWay, IsBetween, Decides, Goes, Turns, EachBecomes, turn_prints, heft, first_prints, first_heft, turns_left}
+use Rattle.shard_core.specs.Abreast.{OwnsAll, IsReadyIn, IsOnWay, IsBetween, Decides, Goes, Turns, EachBecomes, turn_prints, heft, first_prints, first_heft, turns_left}
 
 local-by : (p : PartView) (rule : Rule) (previous : Option ℕ) → OwnsAll p → IfSome previous (λ t. t < p.vertices) → IsLocal p rule previous
 local-by p Plain previous all within = tt
@@ -52,15 +52,18 @@ local-all run p w all within = local-by p run.plan.rule w.state.previous all wit
 pub fresh-ready : (w : Walker) → w.mode ≡ Fresh → IsTrue (is_ready w.mode)
 fresh-ready w fresh = ap is_ready fresh
 
+pub way-ready : (run : Run) (p : PartView) (w : Walker) → IsOnWay run p w → IsReadyIn run p w
+way-ready run p w way = record { stands = way.stands; ready = fresh-ready w way.fresh }
+
 -- a walker that decides and then goes makes a turn
-pub turn-halves : (run : Run) (p : PartView) (a b c : Walker) → IsOnWay run p a → Decides run p a b → Goes run p b c → Turns run p a c
+pub turn-halves : (run : Run) (p : PartView) (a b c : Walker) → IsReadyIn run p a → Decides run p a b → Goes run p b c → Turns run p a c
 turn-halves run p a b c way decides goes = record {
   data_is = λ g of.
       let r : PartedRun = parted g run p.cuts in
       let j : Journey = journey_on g run p.cuts a in
       let same : journey_on g run p.cuts b ≡ j =
       ap (λ n. journey_from r n b.start) decides.number ∙ ap (journey_from r a.number) decides.start in
-      goes.data_is g of ∙ ap (λ k. gone k b) same ∙ ap (gone j) (decides.data_is g of) ∙ halves j a (fresh-ready a way.fresh);
+      goes.data_is g of ∙ ap (λ k. gone k b) same ∙ ap (gone j) (decides.data_is g of) ∙ halves j a way.ready;
   within = goes.within;
   stands = goes.stands decides.stands;
 }

@@ -6,3 +6,15 @@ pub mod AbreastLemmas
 pub mod CountLemmas
 pub mod WholeLemmas
 pub mod BatchLemmas
+pub mod SuitLemmas
+pub mod BeginLemmas
+pub mod EntryLemmas
+pub mod PileLemmas
+pub mod ArriveLemmas
+pub mod OfferLemmas
+pub mod HearLemmas
+pub mod LeaveLemmas
+pub mod PassLemmas
+pub mod SettleLemmas
+pub mod RoundLemmas
+mod ShardLemmas

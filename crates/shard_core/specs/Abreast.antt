@@ -12,11 +12,16 @@ use Rattle.traveller.specs.Deciding.{decided, gone}
 use Rattle.traveller.specs.PartedRuns.{PartedRun, walk_in}
 use Rattle.traveller.specs.Standing.{CanGo, IsWithin, StandsIn, journey_on, parted}
 use Rattle.traveller.specs.Turns.{turned}
-use Rattle.traveller.specs.Walkers.{Walker, is_fresh, is_over}
+use Rattle.traveller.specs.Walkers.{Walker, is_fresh, is_over, is_ready}
 
 -- a part owns all vertices
 abbrev pub OwnsAll : PartView → Type 0
 OwnsAll p = (v : ℕ) → v < p.vertices → owner p.cuts v ≡ p.part
+
+-- a walker that stands in a run and a part, and can go on by itself
+pub record IsReadyIn (run : Run) (p : PartView) (w : Walker) : Type 0 where
+  pub stands : StandsIn run p w
+  pub ready : is_ready w.mode ≡ true
 
 -- a walker that stands at the beginning of a step
 pub record IsOnWay (run : Run) (p : PartView) (w : Walker) : Type 0 where

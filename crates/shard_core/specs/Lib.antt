@@ -4,3 +4,13 @@ pub mod Gathered
 pub mod Abreast
 pub mod Walks
 pub mod Counted
+pub mod Items
+pub mod Taking
+pub mod Shards
+pub mod KeptShards
+pub mod SoundWorlds
+pub mod FirstShards
+pub mod Offers
+pub mod Leaving
+pub mod Turning
+pub mod Crowds

@@ -9,7 +9,7 @@ ghost use Rattle.traveller.specs.Ahead.{left_print};
 ghost use Rattle.traveller.specs.Runs.{start_rank};
 ghost use Rattle.traveller.specs.Standing.{IsWithin};
 ghost use Rattle.traveller.specs.Walkers.{first_walker};
-ghost use Rattle.shard_core.specs.Abreast.{OwnsAll, IsOnWay, IsBetween, CanGoFrom, Decides, Goes, Turns, EachBecomes, heft, first_heft, turn_prints, turns_left};
+ghost use Rattle.shard_core.specs.Abreast.{OwnsAll, IsReadyIn, IsOnWay, IsBetween, CanGoFrom, Decides, Goes, Turns, EachBecomes, heft, first_heft, turn_prints, turns_left};
 
 use crate::prints::Prints;
 use std::alloc::Global;
@@ -22,7 +22,7 @@ pub(crate) const ABREAST: usize = 16;
 
 /// Each traveller reads the record of its table. Nothing here waits for another's record.
 fn arrive_each(lanes: &mut [Lane], here: &WalkPart<'_>)
-    requires { All (IsOnWay here.now.run here.now.part) lanes.old }
+    requires { All (IsReadyIn here.now.run here.now.part) lanes.old }
     ensures { lanes.new ≡ lanes.old }
 {
     for lane in lanes.iter_mut() {
@@ -32,7 +32,7 @@ fn arrive_each(lanes: &mut [Lane], here: &WalkPart<'_>)
 
 /// Each traveller finds the column that it may read next.
 fn aim_each(lanes: &mut [Lane], here: &WalkPart<'_>)
-    requires { All (IsOnWay here.now.run here.now.part) lanes.old }
+    requires { All (IsReadyIn here.now.run here.now.part) lanes.old }
     ensures { lanes.new ≡ lanes.old }
 {
     for lane in lanes.iter_mut() {
@@ -42,7 +42,7 @@ fn aim_each(lanes: &mut [Lane], here: &WalkPart<'_>)
 
 /// Each traveller reads that column. Nothing here waits for another's column.
 fn read_ahead_each(lanes: &mut [Lane], here: &WalkPart<'_>)
-    requires { All (IsOnWay here.now.run here.now.part) lanes.old }
+    requires { All (IsReadyIn here.now.run here.now.part) lanes.old }
     ensures { lanes.new ≡ lanes.old }
 {
     for lane in lanes.iter_mut() {
@@ -54,7 +54,7 @@ fn read_ahead_each(lanes: &mut [Lane], here: &WalkPart<'_>)
 /// has columns of its own, the columns of their first darts. A step begins with a dart where there are no
 /// coins; by p and q the board is a higher one.
 fn look_ahead(lanes: &mut [Lane], here: &WalkPart<'_>)
-    requires { All (IsOnWay here.now.run here.now.part) lanes.old }
+    requires { All (IsReadyIn here.now.run here.now.part) lanes.old }
     ensures { lanes.new ≡ lanes.old }
 {
     let plan = &here.run().plan;
@@ -69,8 +69,7 @@ fn look_ahead(lanes: &mut [Lane], here: &WalkPart<'_>)
 
 /// Each traveller decides its step.
 fn decide_each<L: Ledger>(lanes: &mut [Lane], here: &WalkPart<'_>, steps: &mut Steps<L>)
-    requires all { OwnsAll here.now.part }
-    requires on_way { All (IsOnWay here.now.run here.now.part) lanes.old }
+    requires { All (IsReadyIn here.now.run here.now.part) lanes.old }
     ensures { EachBecomes (Decides here.now.run here.now.part) lanes.old lanes.new }
 {
     for lane in lanes.iter_mut() {
@@ -111,14 +110,13 @@ fn print_each(lanes: &[Lane], prints: &mut Prints)
 }
 
 /// Each traveller makes a turn.
-fn turn_each<L: Ledger>(
+pub(crate) fn turn_each<L: Ledger>(
     lanes: &mut [Lane],
     here: &WalkPart<'_>,
     prints: &mut Prints,
     steps: &mut Steps<L>,
 )
-    requires all { OwnsAll here.now.part }
-    requires on_way { All (IsOnWay here.now.run here.now.part) lanes.old }
+    requires ready { All (IsReadyIn here.now.run here.now.part) lanes.old }
     requires room { length lanes.old ≤ prints.old.room }
     ensures turned { EachBecomes (Turns here.now.run here.now.part) lanes.old lanes.new }
     ensures prints { prints.new.prints ≡ prints.old.prints ++ turn_prints lanes.new }
@@ -152,7 +150,7 @@ fn turn_all<L: Ledger>(
 }
 
 /// The traveller of a number at its start.
-fn traveller_of(run: &Run, number: u64) -> Traveller
+pub(crate) fn traveller_of(run: &Run, number: u64) -> Traveller
     requires number { number < walker_count run.now.plan.start run.now.vertices }
     requires some { 0 < run.now.vertices }
     ensures first { result ≡ first_walker number (start_rank run.now.plan.start run.now.vertices run.now.start number) run.now.plan.length }

@@ -1,10 +1,13 @@
-//! How many prints walkers left.
+//! How many prints walkers left, and how many entries their walks have.
 
 ghost use Rattle.std.specs.Prelude.{◌≡◌};
-ghost use Rattle.shard_core.specs.Counted.{count_all};
+ghost use Rattle.std.specs.List.{flat_map};
+ghost use Rattle.shard_core.specs.Counted.{count_all, count_walks};
 ghost use Rattle.shard_core.specs.Pieces.{all_of};
 
 use crate::prints::Prints;
+use crate::shards::Shard;
+use traveller::Traveller;
 use walk_model::Print;
 
 /// Counts each print of a piece for its walker.
@@ -35,4 +38,33 @@ pub(crate) fn count_prints(counts: &mut [u64], prints: &Prints)
     let (full, last) = prints.pieces();
     count_pieces(counts, full);
     count_piece(counts, last);
+}
+
+/// Puts down for each walker how many entries its walk has: one for its start, and one for each step.
+fn count_walkers(counts: &mut [u64], walkers: &[Traveller])
+    ensures { counts.new ≡ count_walks counts.old walkers.now }
+{
+    for walker in walkers {
+        if walker.number() < counts.len() as u64 {
+            counts[walker.number() as usize] = u64::from(walker.step()) + 1;
+        }
+    }
+}
+
+/// The same for the walkers of a shard.
+fn count_residents(counts: &mut [u64], shard: &Shard)
+    ensures { counts.new ≡ count_walks counts.old shard.now.residents }
+{
+    count_walkers(counts, shard.ready.as_slice());
+    count_walkers(counts, shard.waiting.as_slice());
+    count_walkers(counts, shard.ended.as_slice());
+}
+
+/// The same for the walkers of all shards.
+pub(crate) fn count_in_shards(counts: &mut [u64], shards: &[Shard])
+    ensures { counts.new ≡ count_walks counts.old (flat_map (λ s. s.residents) shards.now) }
+{
+    for shard in shards {
+        count_residents(counts, shard);
+    }
 }

@@ -1,6 +1,6 @@
 //! The walks that prints make.
 
-ghost use Rattle.std.specs.Prelude.{◌≡◌, ◌<◌, ◌+◌, ◌^◌, suc, List, ℕ, length, map, sum, All, IfOk};
+ghost use Rattle.std.specs.Prelude.{◌≡◌, ◌≤◌, ◌<◌, ◌+◌, ◌^◌, ◌++◌, List, ℕ, length, map, sum, All, IfOk};
 ghost use Rattle.std.specs.List.{flat_map};
 ghost use Rattle.walk_model.specs.Beginnings.{begins_from};
 ghost use Rattle.shard_core.specs.Gathered.{AreAllPrints, place_of, put_all};
@@ -9,21 +9,21 @@ use crate::prints::Prints;
 use std::alloc::Global;
 use walk_model::{Finished, Memory, Print};
 
-/// Where each walk begins, one after another, and where the last one ends.
-fn beginnings(alloc: Global, steps: &[u32]) -> Result<(Vec<u64>, u64), Memory>
-    ensures begins { IfOk result (λ r. r.0.items ≡ begins_from 0 (map suc steps.now)) }
-    ensures end { IfOk result (λ r. r.1 ≡ sum (map suc steps.now)) }
+/// Adds where the next walks begin, behind so many entries of others, by how many entries each has. The
+/// result is where the last one ends.
+pub(crate) fn add_begins(begins: &mut Vec<u64>, place: u64, counts: &[u64]) -> Result<u64, Memory>
+    ensures begins { IfOk result (λ _. begins.new.items ≡ begins.old.items ++ begins_from place counts.now) }
+    ensures end { IfOk result (λ end. end ≡ place + sum counts.now) }
 {
-    let mut begins = Vec::with_capacity(alloc, steps.len())?;
-    let mut place = 0u64;
-    for step in steps {
-        begins.push(place)?;
-        match place.checked_add(u64::from(*step) + 1) {
-            Some(next) => place = next,
+    let mut next = place;
+    for count in counts {
+        begins.push(next)?;
+        match next.checked_add(*count) {
+            Some(place) => next = place,
             None => return Err(Memory),
         }
     }
-    Ok((begins, place))
+    Ok(next)
 }
 
 /// The place of a print, which is at or behind the end where there is no such walk.
@@ -84,16 +84,18 @@ fn put_lists(entries: &mut [u32], begins: &[u64], kept: Vec<Prints>)
     }
 }
 
-/// The walks whose prints were kept, in any order in any lists: `steps[i]` is how many steps walker
-/// `i` has made. Each piece of prints is freed when its prints stand in the walks.
+/// The walks whose prints were kept, in any order in any lists: `counts[i]` is how many entries the walk of walker
+/// `i` has, at least one. Each piece of prints is freed when its prints stand in the walks.
 ///
 /// # Errors
 ///
 /// `Memory` where there is none for all entries, 4 bytes each, or for the beginnings, 8 bytes each.
-pub fn finish(alloc: Global, kept: Vec<Prints>, steps: &[u32]) -> Result<Finished, Memory>
-    ensures { IfOk result (λ f. (walks : List (List ℕ)) → AreAllPrints walks (flat_map (λ k. k.prints) kept.items) → map length walks ≡ map suc steps.now → f ≡ walks) }
+pub(crate) fn finish(alloc: Global, kept: Vec<Prints>, counts: &[u64]) -> Result<Finished, Memory>
+    requires { All (λ n. 1 ≤ n) counts.now }
+    ensures { IfOk result (λ f. (walks : List (List ℕ)) → AreAllPrints walks (flat_map (λ k. k.prints) kept.items) → map length walks ≡ counts.now → f ≡ walks) }
 {
-    let (begins, end) = beginnings(alloc, steps)?;
+    let mut begins = Vec::with_capacity(alloc, counts.len())?;
+    let end = add_begins(&mut begins, 0, counts)?;
     let mut entries = vec![in alloc; 0u32; end as usize]?;
     put_lists(entries.as_mut_slice(), begins.as_slice(), kept);
     Ok(Finished::of(entries, begins))

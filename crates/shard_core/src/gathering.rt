@@ -5,7 +5,7 @@ ghost use Rattle.walk_model.specs.Beginnings.{begins_from};
 ghost use Rattle.shard_core.specs.Gathered.{put_all};
 ghost use Rattle.shard_core.specs.Pieces.{all_of};
 
-use crate::finishing::put_piece;
+use crate::finishing::{add_begins, put_piece};
 use crate::prints::Prints;
 use walk_model::{Memory, Print};
 
@@ -27,23 +27,6 @@ fn put_each(entries: &mut [u32], begins: &[u64], prints: &Prints)
     let (full, last) = prints.pieces();
     put_each_piece(entries, begins, full);
     put_piece(entries, begins, last);
-}
-
-/// Adds where the next walks begin, behind so many entries of others, by how many entries each has. The
-/// result is where the last one ends.
-fn add_begins(begins: &mut Vec<u64>, place: u64, counts: &[u64]) -> Result<u64, Memory>
-    ensures begins { IfOk result (λ _. begins.new.items ≡ begins.old.items ++ begins_from place counts.now) }
-    ensures end { IfOk result (λ end. end ≡ place + sum counts.now) }
-{
-    let mut next = place;
-    for count in counts {
-        begins.push(next)?;
-        match next.checked_add(*count) {
-            Some(place) => next = place,
-            None => return Err(Memory),
-        }
-    }
-    Ok(next)
 }
 
 /// Adds the next walks, whose prints these are, by how many entries each has: at least one.

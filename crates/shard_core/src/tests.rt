@@ -1,4 +1,5 @@
 use super::*;
+use crate::finishing::finish;
 use std::alloc::Global;
 use std::test::Fail;
 use walk_model::{Memory, Print};
@@ -22,7 +23,7 @@ fn walks_of_shuffled_prints(rt: HostRuntime) -> Result<(), Fail> {
     let alloc = rt.alloc();
     let first = prints_of(alloc, &[(2, 0, 8), (0, 1, 5), (1, 0, 7)])?;
     let second = prints_of(alloc, &[(2, 2, 4), (0, 0, 6), (2, 1, 9)])?;
-    let walks = finish(alloc, vec![in alloc; first, second]?, &[1, 0, 2])?;
+    let walks = finish(alloc, vec![in alloc; first, second]?, &[2, 1, 3])?;
     assert_eq!(rt; walks.count(), 3);
     for (i, want) in [[6, 5].as_slice(), [7].as_slice(), [8, 9, 4].as_slice()]
         .iter()
@@ -44,7 +45,7 @@ fn prints_of_no_walk(rt: HostRuntime) -> Result<(), Fail> {
         alloc,
         &[(0, 0, 3), (7, 0, 1), (0, 9, 2), (u64::MAX, u32::MAX, 5)],
     )?;
-    let one = finish(alloc, vec![in alloc; others]?, &[0])?;
+    let one = finish(alloc, vec![in alloc; others]?, &[1])?;
     assert_eq!(rt; one.count(), 1);
     assert!(rt; 0 < one.count());
     assert_eq!(rt; one.walk(0), [3].as_slice());
@@ -68,7 +69,7 @@ fn more_prints_than_a_piece(rt: HostRuntime) -> Result<(), Fail> {
         assert!(rt; k < prints.len());
         assert_eq!(rt; u64::from(prints.get(k).step), k);
     }
-    let walks = finish(alloc, vec![in alloc; prints]?, &[99_999])?;
+    let walks = finish(alloc, vec![in alloc; prints]?, &[100_000])?;
     assert_eq!(rt; walks.count(), 1);
     assert!(rt; 0 < walks.count());
     let walk = walks.walk(0);

@@ -26,3 +26,4 @@ pub use parcels::{Addressed, Parcel, Posted};
 pub use recording::Recording;
 pub use reversed::Reversed;
 pub use shuffled::Shuffled;
+pub use unpacking::count_items;

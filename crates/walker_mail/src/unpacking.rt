@@ -34,7 +34,7 @@ pub(crate) fn unpack_all<I: Drop>(
 
 #[tactic(auto, using(crate::proofs::PostLemmas::length_more))]
 /// How many items parcels have.
-pub(crate) fn count_items<I>(parcels: &[Parcel<I>]) -> u64
+pub fn count_items<I>(parcels: &[Parcel<I>]) -> u64
     requires { length (all_items parcels.now) < 2 ^ 64 }
     ensures { result ≡ length (all_items parcels.now) }
 {

@@ -10,5 +10,5 @@ returns-clause-turned g c =
       λ k d low.
           (let there : k < length c.decide_each.new.lanes = omega (arith, low, decided.0) in
           turn-halves c.args.here.now.run c.args.here.now.part (get_or c.args.lanes.now k d) (get_or c.decide_each.new.lanes k d) (get_or c.go_each.new.lanes k d)
-          (c.requires.on_way k d low) (decided.1 k d low) (gone.1 k d there)),
+          (c.requires.ready k d low) (decided.1 k d low) (gone.1 k d there)),
     )

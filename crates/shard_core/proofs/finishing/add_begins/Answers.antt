@@ -2,7 +2,7 @@ use Rattle.std.proofs.Common.{◌≡◌, ◌+◌, get_or, sym, arith}
 use Rattle.std.proofs.lemmas.List.{append-nil}
 use Rattle.walk_model.specs.Beginnings.{begins_from}
 use Rattle.shard_core.proofs.BatchLemmas.{behind-more, place-more}
-use Rattle.shard_core.proofs.gathering.add_begins.Goals as goal
+use Rattle.shard_core.proofs.finishing.add_begins.Goals as goal
 
 pub loop-count-init : goal.loop-count-init
 unfolding begins_from

@@ -1,6 +1,6 @@
 use Rattle.std.proofs.Common.{◌≡◌, ◌+◌, ◌++◌, sum, take}
 use Rattle.walk_model.specs.Beginnings.{begins_from}
-use Rattle.shard_core.proofs.gathering.add_begins.Given as goal
+use Rattle.shard_core.proofs.finishing.add_begins.Given as goal
 
 abbrev pub invariant-loop-count : goal.invariant-loop-count
 invariant-loop-count l = record {
