@@ -1,0 +1,12 @@
+pub mod SumLemmas
+pub mod ItemLemmas
+pub mod BoundLemmas
+pub mod CarryLemmas
+pub mod MomentLemmas
+pub mod RoundLemmas
+pub mod StandLemmas
+pub mod GoingLemmas
+pub mod EndLemmas
+pub mod BoxLemmas
+pub mod MadeLemmas
+pub mod StepLemmas

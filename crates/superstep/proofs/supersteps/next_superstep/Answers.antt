@@ -1,0 +1,108 @@
+use Rattle.std.proofs.Common.{◌+◌, ◌++◌, [], length, ap, arith}
+use Rattle.std.proofs.lemmas.List.{length-map}
+use Rattle.std.proofs.lemmas.List.Sorted.{All-permutation}
+use Rattle.walker_mail.specs.declared.parcels.Posted.{Posted}
+use Rattle.walker_mail.specs.Posts.{all_items}
+use Rattle.walker_mail.proofs.CutLemmas.{All-front, All-back}
+use Rattle.shard_core.specs.declared.items.Item.{Item}
+use Rattle.shard_core.specs.Items.{item_of}
+use Rattle.superstep.specs.Boxes.{boxed}
+use Rattle.superstep.specs.Moments.{IsAddressed, IsGoing, moment, sent_of}
+use Rattle.superstep.specs.Rounding.{arrived}
+use Rattle.superstep.proofs.StepLemmas.{handed-pass, handed-going, handed-count, handed-long, handed-within}
+use Rattle.superstep.proofs.GoingLemmas.{passes-then, passes-fewer, going-on, going-held}
+use Rattle.superstep.proofs.supersteps.next_superstep.Goals as goal
+
+pub count_items-handed-requires : goal.count_items-handed-requires
+count_items-handed-requires g c =
+    let held = g.C.Carrier.held c.args.carrier.now in
+    let rest = g.C.Carrier.held c.hand_over.new.self in
+    let items = all_items c.in_ok-parcels.parcels.items in
+    let few = going-held (moment c.args.shards.now [] (sent_of held) (g.C.Carrier.carried c.args.carrier.now) (g.C.Carrier.log c.args.carrier.now)) c.requires.going in
+    let n = handed-long held items rest c.in_ok-parcels.ensures.rearranged in
+    omega (arith, few, n, length-map held (λ (p : Posted Item). item_of p.item), ap (λ l. length (all_items l)) c.deref.ensures.value)
+
+pub by_addressee-requires-clause-addressed : goal.by_addressee-requires-clause-addressed
+by_addressee-requires-clause-addressed g c =
+    let held = g.C.Carrier.held c.args.carrier.now in
+    let rest = g.C.Carrier.held c.hand_over.new.self in
+    let items = all_items c.in_ok-parcels.parcels.items in
+    All-front IsAddressed items rest (All-permutation IsAddressed held (items ++ rest) c.in_ok-parcels.ensures.rearranged c.requires.addressed)
+
+pub by_addressee-requires-clause-within : goal.by_addressee-requires-clause-within
+by_addressee-requires-clause-within g c =
+    handed-within c.args.shards.now (g.C.Carrier.held c.args.carrier.now) (all_items c.in_ok-parcels.parcels.items) (g.C.Carrier.held c.hand_over.new.self)
+    (g.C.Carrier.carried c.args.carrier.now) (g.C.Carrier.log c.args.carrier.now) c.requires.going c.requires.addressed c.in_ok-parcels.ensures.rearranged
+
+pub superstep-requires-clause-addressed : goal.superstep-requires-clause-addressed
+superstep-requires-clause-addressed g c =
+    let held = g.C.Carrier.held c.args.carrier.now in
+    let rest = g.C.Carrier.held c.hand_over.new.self in
+    let items = all_items c.in_ok-parcels.parcels.items in
+    All-back IsAddressed items rest (All-permutation IsAddressed held (items ++ rest) c.in_ok-parcels.ensures.rearranged c.requires.addressed)
+
+pub superstep-requires-clause-going : goal.superstep-requires-clause-going
+superstep-requires-clause-going g c =
+    let held = g.C.Carrier.held c.args.carrier.now in
+    let rest = g.C.Carrier.held c.hand_over.new.self in
+    let items = all_items c.in_ok-parcels.parcels.items in
+    let boxes = c.in_ok-arrivals.arrivals.items in
+    handed-going c.args.shards.now held items rest (length c.args.shards.now) boxes (g.C.Carrier.carried c.args.carrier.now) (g.C.Carrier.carried c.hand_over.new.self)
+    (g.C.Carrier.log c.args.carrier.now) (g.C.Carrier.log c.hand_over.new.self) c.in_ok-parcels.ensures.rearranged c.in_ok-arrivals.ensures
+    c.in_ok-parcels.ensures.count c.in_ok-parcels.ensures.letters c.requires.going
+
+pub overflow_sub-result : goal.overflow_sub-result
+overflow_sub-result g c =
+    let held = g.C.Carrier.held c.args.carrier.now in
+    let rest = g.C.Carrier.held c.hand_over.new.self in
+    let items = all_items c.in_ok-parcels.parcels.items in
+    omega (arith, handed-long held items rest c.in_ok-parcels.ensures.rearranged, c.count_items-handed.ensures, c.requires.afloat, ap (λ l. length (all_items l)) c.deref.ensures.value)
+
+pub returns-clause-afloat : goal.returns-clause-afloat
+returns-clause-afloat g c =
+    let held = g.C.Carrier.held c.args.carrier.now in
+    let rest = g.C.Carrier.held c.hand_over.new.self in
+    let items = all_items c.in_ok-parcels.parcels.items in
+    omega (arith, handed-long held items rest c.in_ok-parcels.ensures.rearranged, c.count_items-handed.ensures, c.requires.afloat, ap (λ l. length (all_items l)) c.deref.ensures.value, c.in_ok-posted.ensures.count)
+
+pub returns-clause-passes : goal.returns-clause-passes
+returns-clause-passes g c =
+    let held = g.C.Carrier.held c.args.carrier.now in
+    let rest = g.C.Carrier.held c.hand_over.new.self in
+    let items = all_items c.in_ok-parcels.parcels.items in
+    let boxes = c.in_ok-arrivals.arrivals.items in
+    let start = moment c.args.shards.now [] (sent_of held) (g.C.Carrier.carried c.args.carrier.now) (g.C.Carrier.log c.args.carrier.now) in
+    let middle = moment c.args.shards.now [] (arrived (boxed boxes) ++ sent_of rest) (g.C.Carrier.carried c.hand_over.new.self) (g.C.Carrier.log c.hand_over.new.self) in
+    let end = moment c.superstep.new.shards [] (sent_of (g.C.Carrier.held c.superstep.new.carrier)) (g.C.Carrier.carried c.superstep.new.carrier) (g.C.Carrier.log c.superstep.new.carrier) in
+    let first = handed-pass c.args.shards.now held items rest (length c.args.shards.now) boxes (g.C.Carrier.carried c.args.carrier.now) (g.C.Carrier.carried c.hand_over.new.self)
+    (g.C.Carrier.log c.args.carrier.now) (g.C.Carrier.log c.hand_over.new.self) c.in_ok-parcels.ensures.rearranged c.in_ok-arrivals.ensures
+    c.in_ok-parcels.ensures.count c.in_ok-parcels.ensures.letters in
+    let n = handed-count held items rest (length c.args.shards.now) boxes c.in_ok-parcels.ensures.rearranged c.in_ok-arrivals.ensures in
+    let many = n.1 in
+    let some = c.in_ok-parcels.ensures.some (omega (arith, c.requires.some, c.requires.afloat)) in
+    passes-fewer (0 + length (boxed boxes)) 1 start end (omega (arith, many, some))
+    (passes-then 0 (length (boxed boxes)) start middle end first c.in_ok-posted.ensures.passes)
+
+pub overflow_add-result : goal.overflow_add-result
+overflow_add-result g c =
+    let held = g.C.Carrier.held c.args.carrier.now in
+    let rest = g.C.Carrier.held c.hand_over.new.self in
+    let items = all_items c.in_ok-parcels.parcels.items in
+    let boxes = c.in_ok-arrivals.arrivals.items in
+    let middle = moment c.args.shards.now [] (arrived (boxed boxes) ++ sent_of rest) (g.C.Carrier.carried c.hand_over.new.self) (g.C.Carrier.log c.hand_over.new.self) in
+    let end = moment c.superstep.new.shards [] (sent_of (g.C.Carrier.held c.superstep.new.carrier)) (g.C.Carrier.carried c.superstep.new.carrier) (g.C.Carrier.log c.superstep.new.carrier) in
+    let going : IsGoing middle =
+    handed-going c.args.shards.now held items rest (length c.args.shards.now) boxes (g.C.Carrier.carried c.args.carrier.now) (g.C.Carrier.carried c.hand_over.new.self)
+    (g.C.Carrier.log c.args.carrier.now) (g.C.Carrier.log c.hand_over.new.self) c.in_ok-parcels.ensures.rearranged c.in_ok-arrivals.ensures
+    c.in_ok-parcels.ensures.count c.in_ok-parcels.ensures.letters c.requires.going in
+    let few = going-held end (going-on (length (boxed boxes)) middle end going c.in_ok-posted.ensures.passes) in
+    omega (
+      arith,
+      few,
+      handed-long held items rest c.in_ok-parcels.ensures.rearranged,
+      c.count_items-handed.ensures,
+      c.requires.afloat,
+      ap (λ l. length (all_items l)) c.deref.ensures.value,
+      c.in_ok-posted.ensures.count,
+      length-map (g.C.Carrier.held c.superstep.new.carrier) (λ (p : Posted Item). item_of p.item),
+    )

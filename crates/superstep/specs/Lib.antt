@@ -1,0 +1,4 @@
+pub mod Carried
+pub mod Moments
+pub mod Boxes
+pub mod Rounding
