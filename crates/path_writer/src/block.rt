@@ -10,7 +10,7 @@ pub(crate) const ROOM: usize = 65536;
 
 /// The bytes that wait to be written, seen as their list.
 #[derive(Drop)]
-pub(crate) struct Block {
+pub struct Block {
     bytes: [u8; ROOM],
     len: usize,
 }
@@ -27,7 +27,7 @@ impl Model for Block {
 
 impl Block {
     /// A block in which nothing waits.
-    pub(crate) fn new() -> Block
+    pub fn new() -> Block
         ensures { result ≡ [] }
     {
         Block {

@@ -10,7 +10,7 @@ use crate::writing::write_all;
 use walk_io::{Failed, Sink};
 
 /// Writes all that waits.
-pub(crate) fn flush<K: Sink>(block: &mut Block, out: &mut K) -> Result<(), Failed>
+pub fn flush<K: Sink>(block: &mut Block, out: &mut K) -> Result<(), Failed>
     ensures empty { OnOk result (block.new ≡ []) }
     ensures whole { OnOk result (K.bytes out.new ≡ append_known (K.bytes out.old) block.old) }
     ensures front { OnErr result (GainsFront (K.bytes out.old) (K.bytes out.new) block.old) }
@@ -43,7 +43,7 @@ fn make_room<K: Sink>(block: &mut Block, out: &mut K, count: usize) -> Result<()
 }
 
 /// Adds a byte.
-pub(crate) fn put_byte<K: Sink>(block: &mut Block, out: &mut K, byte: u8) -> Result<(), Failed>
+pub fn put_byte<K: Sink>(block: &mut Block, out: &mut K, byte: u8) -> Result<(), Failed>
     ensures whole { OnOk result (GainsBut (K.bytes out.old) (K.bytes out.new) (block.old ++ byte ∷ []) block.new) }
     ensures front { OnErr result (GainsFront (K.bytes out.old) (K.bytes out.new) (block.old ++ byte ∷ [])) }
     ensures later { K.faults out.old ≤ K.faults out.new }
@@ -59,7 +59,7 @@ pub(crate) fn put_byte<K: Sink>(block: &mut Block, out: &mut K, byte: u8) -> Res
 }
 
 /// Adds a number.
-pub(crate) fn put_number<K: Sink>(block: &mut Block, out: &mut K, number: u32) -> Result<(), Failed>
+pub fn put_number<K: Sink>(block: &mut Block, out: &mut K, number: u32) -> Result<(), Failed>
     ensures whole { OnOk result (GainsBut (K.bytes out.old) (K.bytes out.new) (block.old ++ decimal number) block.new) }
     ensures front { OnErr result (GainsFront (K.bytes out.old) (K.bytes out.new) (block.old ++ decimal number)) }
     ensures later { K.faults out.old ≤ K.faults out.new }

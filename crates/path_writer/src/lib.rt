@@ -8,5 +8,7 @@ mod tests;
 mod walks;
 mod writing;
 
-pub use walks::{WriteFault, write_walks};
+pub use block::Block;
+pub use filling::{flush, put_byte, put_number};
+pub use walks::{WriteFault, put_ids, write_walks};
 pub use writing::write_all;

@@ -34,7 +34,7 @@ fn look_up(names: &Names, ranks: &[u32], ids: &mut [u32; AHEAD])
 }
 
 /// Adds a space and an id for each of some ids.
-fn put_ids<K: Sink>(block: &mut Block, out: &mut K, ids: &[u32]) -> Result<(), Failed>
+pub fn put_ids<K: Sink>(block: &mut Block, out: &mut K, ids: &[u32]) -> Result<(), Failed>
     ensures whole { OnOk result (GainsBut (K.bytes out.old) (K.bytes out.new) (block.old ++ concat (map spaced ids.now)) block.new) }
     ensures front { OnErr result (GainsFront (K.bytes out.old) (K.bytes out.new) (block.old ++ concat (map spaced ids.now))) }
     ensures later { K.faults out.old ≤ K.faults out.new }

@@ -1,0 +1,4 @@
+pub mod OneWalk
+pub mod PartLaws
+pub mod ReplyLaws
+pub mod SessionLaws

@@ -1,0 +1,5 @@
+pub mod Replies
+pub mod PartWalks
+pub mod Answered
+pub mod ReplyFaults
+pub mod Lines
