@@ -36,14 +36,14 @@ unfolding verdict
 verdict-words words told none = ap (λ o. and_then (job_found o) (task_of told)) none
 
 -- what may be accepted may end well
-pub ends-well : (v : Finding Task) (task : Task) → MayBe v task → MayEndWell v
+pub ends-well : {A : Type 0} (v : Finding A) (task : A) → MayBe v task → MayEndWell v
 ends-well (Found t) task is = tt
 ends-well (Refused f) task is = absurd is
 ends-well (Lacks name) task is = absurd is
 ends-well Untold task is = tt
 
 -- a fact on the only task that may be accepted
-pub accepted-is : (v : Finding Task) (task : Task) (P : Task → Type 0) → MayBe v task → P task → IfAccepted v P
+pub accepted-is : {A : Type 0} (v : Finding A) (task : A) (P : A → Type 0) → MayBe v task → P task → IfAccepted v P
 accepted-is (Found t) task P is here = subst P (sym is) here
 accepted-is (Refused f) task P is here = tt
 accepted-is (Lacks name) task P is here = tt
@@ -71,7 +71,7 @@ leaves-untouched bytes v old new (OfReading name) same = same
 leaves-untouched bytes v old new OfWriting same = begins-nothing bytes v old new same
 leaves-untouched bytes v old new OfMemory same = begins-nothing bytes v old new same
 
-refused-with : (v : Finding Task) (f : WalkFault) → MayRefuse v f → IsRefusedWith v (status_of f)
+pub refused-with : {A : Type 0} (v : Finding A) (f : WalkFault) → MayRefuse v f → IsRefusedWith v (status_of f)
 refused-with (Found t) f is = absurd is
 refused-with (Refused g) f is = ap status_of is
 refused-with (Lacks name) f is = absurd is
@@ -81,49 +81,49 @@ words-refused : (c : Call) → job c.words ≡ None → MayRefuse (verdict c.wor
 words-refused c none = rw (verdict-words c.words c.told none) refl
 
 -- what is refused isn't accepted, nor does it lack a file
-accepted-not : (v : Finding Task) (f : WalkFault) (P : Task → Type 0) → MayRefuse v f → IfAccepted v P
+pub accepted-not : {A : Type 0} (v : Finding A) (f : WalkFault) (P : A → Type 0) → MayRefuse v f → IfAccepted v P
 accepted-not (Found t) f P is = absurd is
 accepted-not (Refused g) f P is = tt
 accepted-not (Lacks name) f P is = tt
 accepted-not Untold f P is = tt
 
-lacking-not : (v : Finding Task) (f : WalkFault) (P : Type 0) → MayRefuse v f → IfLacking v P
+pub lacking-not : {A : Type 0} (v : Finding A) (f : WalkFault) (P : Type 0) → MayRefuse v f → IfLacking v P
 lacking-not (Found t) f P is = tt
 lacking-not (Refused g) f P is = tt
 lacking-not (Lacks name) f P is = absurd is
 lacking-not Untold f P is = tt
 
-well-not_lacking : (v : Finding Task) (P : Type 0) → MayEndWell v → IfLacking v P
+pub well-not_lacking : {A : Type 0} (v : Finding A) (P : Type 0) → MayEndWell v → IfLacking v P
 well-not_lacking (Found t) P well = tt
 well-not_lacking (Refused g) P well = tt
 well-not_lacking (Lacks name) P well = absurd well
 well-not_lacking Untold P well = tt
 
-lacking-all : (v : Finding Task) (P : Type 0) → P → IfLacking v P
+pub lacking-all : {A : Type 0} (v : Finding A) (P : Type 0) → P → IfLacking v P
 lacking-all (Found t) P all = tt
 lacking-all (Refused g) P all = tt
 lacking-all (Lacks name) P all = all
 lacking-all Untold P all = tt
 
-accepted-all : (v : Finding Task) (P : Task → Type 0) → ((t : Task) → P t) → IfAccepted v P
+pub accepted-all : {A : Type 0} (v : Finding A) (P : A → Type 0) → ((t : A) → P t) → IfAccepted v P
 accepted-all (Found t) P all = all t
 accepted-all (Refused g) P all = tt
 accepted-all (Lacks name) P all = tt
 accepted-all Untold P all = tt
 
-refused-all : (v : Finding Task) (P : WalkFault → Type 0) → ((f : WalkFault) → P f) → IfRefused v P
+pub refused-all : {A : Type 0} (v : Finding A) (P : WalkFault → Type 0) → ((f : WalkFault) → P f) → IfRefused v P
 refused-all (Found t) P all = tt
 refused-all (Refused g) P all = all g
 refused-all (Lacks name) P all = tt
 refused-all Untold P all = tt
 
-well-not_refused : (v : Finding Task) (P : WalkFault → Type 0) → MayEndWell v → IfRefused v P
+pub well-not_refused : {A : Type 0} (v : Finding A) (P : WalkFault → Type 0) → MayEndWell v → IfRefused v P
 well-not_refused (Found t) P well = tt
 well-not_refused (Refused g) P well = absurd well
 well-not_refused (Lacks name) P well = tt
 well-not_refused Untold P well = tt
 
-refused-is : (v : Finding Task) (f : WalkFault) (P : WalkFault → Type 0) → MayRefuse v f → P f → IfRefused v P
+pub refused-is : {A : Type 0} (v : Finding A) (f : WalkFault) (P : WalkFault → Type 0) → MayRefuse v f → P f → IfRefused v P
 refused-is (Found t) f P is here = absurd is
 refused-is (Refused g) f P is here = subst P (sym is) here
 refused-is (Lacks name) f P is here = tt

@@ -87,7 +87,7 @@ ranks-in n (e ∷ es) h =
     let head = All-head (λ (d : Edge). (d.src < n) × (d.dst < n)) e es h in
     (head.0, head.1, ranks-in n es (All-tail (λ (d : Edge). (d.src < n) × (d.dst < n)) e es h))
 
-start-named : (rule : StartRule) (names : List ℕ) (start : Option ℕ) (walker : ℕ) → IsRankOf rule names start
+pub start-named : (rule : StartRule) (names : List ℕ) (start : Option ℕ) (walker : ℕ) → IsRankOf rule names start
     → slice_index names (start_rank rule (length names) start walker) ≡ start_of rule names walker
 unfolding start_of
 start-named Each names start walker is = refl
@@ -108,7 +108,7 @@ pub record StartsOn (names : List ℕ) (run : Run) : Type 0 where
   pub rank : IsRankOf run.plan.start names run.start
   pub some : 0 < walker_count run.plan.start run.vertices → 0 < run.vertices
 
-start-stands : (names : List ℕ) (run : Run) (walker : ℕ) → StartsOn names run → walker < walker_count run.plan.start run.vertices
+pub start-stands : (names : List ℕ) (run : Run) (walker : ℕ) → StartsOn names run → walker < walker_count run.plan.start run.vertices
     → start_rank run.plan.start run.vertices run.start walker < length names
 start-stands names run walker on low =
     let inside = start-in run.plan.start run.vertices run.start walker run.starts on.some low in

@@ -1,14 +1,13 @@
 -- A graph made ready.
-use Rattle.std.proofs.Common.{◌≡◌, ◌<◌, ◌≤◌, ◌*◌, ◌^◌, ℕ, zero, suc, Bool, true, false, List, [], ◌∷◌, length, sum, Option, Some, None, ap, sym, subst, ◌∙◌, arith}
+use Rattle.std.proofs.Common.{◌≡◌, ◌<◌, ◌+◌, ◌^◌, ℕ, zero, suc, Bool, true, false, List, [], ◌∷◌, length, map, get_or, Option, Some, None, ap, sym, subst, ◌∙◌, arith}
 use Rattle.std.specs.Prelude.{if◌then◌else◌, nat_lt, slice_index, find, option_map, unwrap_or}
 use Rattle.std.specs.Option.{option_or}
-use Rattle.std.proofs.lemmas.Bool.Decides.{nat_tests}
 use Rattle.std.proofs.lemmas.List.Folds.{find-append}
 use Rattle.std.specs.List.Sorted.{IsStrictlyIncreasing}
 use Rattle.walk_model.specs.declared.graph.Edge.{Edge}
 use Rattle.walk_model.specs.declared.faults.WalkFault.TheVariants as fault
 use Rattle.walk_model.specs.Settings.{Settings}
-use Rattle.walk_model.specs.Graph.{vertices_of, weights_of}
+use Rattle.walk_model.specs.Graph.{row, vertices_of}
 use Rattle.walk_model.specs.Factor.{greatest_factor}
 use Rattle.vertex_names.proofs.NameLaws.{vertices-name}
 use Rattle.vertex_names.proofs.RisingLemmas.{Rises-vertices, increasing-from_Rises}
@@ -16,14 +15,15 @@ use Rattle.csr_store.specs.RowGraph.{RowGraph}
 use Rattle.walk_top.specs.declared.readying.Ready.{Ready}
 use Rattle.walk_top.specs.Limits.{count_fault, overflowing, task_fault}
 use Rattle.walk_model.specs.Numbers.{below}
-use Rattle.walk_model.specs.Cuts.{owner}
-use Rattle.walk_model.specs.Fits.{reach_of}
+use Rattle.walk_model.specs.Cuts.{costs_of, cuts_of}
 use Rattle.walk_model.specs.Walk.{walker_count}
-use Rattle.vertex_partition.specs.PartViews.{PartView, Owns, IsPart, IsPartOf}
+use Rattle.vertex_partition.specs.PartViews.{PartView, IsPart, IsPartOf}
 use Rattle.vertex_partition.specs.Reaches.{row_reach}
-use Rattle.vertex_partition.proofs.ReachLaws.{not-below}
+use Rattle.vertex_names.specs.Ranks.{ranked}
+use Rattle.shard_core.proofs.SuitLemmas.{suits-part}
+use Rattle.shard_core.specs.SoundWorlds.{ArePartsOf}
 use Rattle.walk_top.specs.Ranked.{IsRankedBy}
-use Rattle.walk_top.specs.Readiness.{IsReadyFor, ranked_graph}
+use Rattle.walk_top.specs.Readiness.{IsReadyFor, cuts_in, ranked_graph}
 use Rattle.walk_top.specs.Starts.{IsRankOf}
 use Rattle.walk_top.proofs.ReachLemmas.{overflow-named}
 
@@ -69,48 +69,65 @@ ranked-part edges g p by of = record {
   has = λ t x owns. of.has t x owns ∙ by.has t x;
 }
 
--- no vertex of the part overflows
-part-fits : (g : RowGraph) (p : PartView) (plan : Settings) → IsPartOf g p
-    → find (λ v. nat_lt (2 ^ 62) (row_reach g plan.weighted (greatest_factor plan.rule) v)) (below g.vertices) ≡ None
-    → (v : ℕ) → Owns p v → reach_of p.edges plan v ≤ 2 ^ 62
-part-fits g p plan of none v owns =
-    let count = of.vertices in
-    let low : v < g.vertices = (let there = owns.below in omega (arith, there, count)) in
-    let not : nat_lt (2 ^ 62) (row_reach g plan.weighted (greatest_factor plan.rule) v) ≡ false =
-    not-below (λ w. nat_lt (2 ^ 62) (row_reach g plan.weighted (greatest_factor plan.rule) w)) g.vertices v none low in
-    let most : row_reach g plan.weighted (greatest_factor plan.rule) v ≤ 2 ^ 62 = grind (arith, nat_tests) in
-    subst (λ (out : List Edge). length (weights_of plan.weighted out) * sum (weights_of plan.weighted out) * greatest_factor plan.rule ≤ 2 ^ 62)
-    (sym (of.rows v owns)) most
+-- all parts of the stored graph are, in order, all parts of the graph in ranks
+ranked-parts : (edges : List Edge) (g : RowGraph) (weighted : Bool) (cuts : List ℕ) (ps : List PartView) → IsRankedBy (vertices_of edges) edges g
+    → length ps ≡ length cuts + 1 → ((k : ℕ) (d : PartView) → k < length ps → IsPart g weighted cuts k (get_or ps k d))
+    → ArePartsOf (ranked_graph (vertices_of edges) edges) weighted cuts ps
+ranked-parts edges g weighted cuts ps by count parts = record {
+  count = count;
+  each = λ k d low.
+      let p = parts k d low in
+      record {
+        part = p.part;
+        cuts_are = p.cuts_are;
+        weights = p.weights;
+        of_graph = ranked-part edges g (get_or ps k d) by p.of_graph;
+        only = p.only;
+      };
+}
+
+-- vertices cost the same in the stored graph and in ranks
+costs-ranked : (edges : List Edge) (g : RowGraph) → IsRankedBy (vertices_of edges) edges g
+    → costs_of g.edges (below g.vertices)
+    ≡ (let r = ranked_graph (vertices_of edges) edges in costs_of r.edges (below r.vertices))
+unfolding costs_of
+costs-ranked edges g by =
+    ap (λ (f : ℕ → ℕ). map f (below g.vertices)) (λ i v. 1 + length (by.rows v i))
+    ∙ ap (λ n. map (λ v. 1 + length (row (map (ranked (vertices_of edges)) edges) v)) (below n)) by.vertices
 
 -- a graph is ready
-pub ready-for : (plan : Settings) (edges : List Edge) (seed : ℕ) {r : Ready} (g : RowGraph) (names : List ℕ) (weighted : Bool) (factor : ℕ)
+pub ready-for : (plan : Settings) (edges : List Edge) (seed parts : ℕ) {r : Ready} (g : RowGraph) (names : List ℕ) (weighted : Bool) (factor : ℕ) (cuts : List ℕ)
     → r.names ≡ names → names ≡ vertices_of edges → r.run.plan ≡ plan → r.run.seed ≡ seed → r.run.vertices ≡ length names
-    → IsRankedBy names edges g → IsPart g weighted [] 0 r.part
+    → IsRankedBy names edges g → length r.parts.items ≡ length cuts + 1
+    → ((k : ℕ) (d : PartView) → k < length r.parts.items → IsPart g weighted cuts k (get_or r.parts.items k d))
+    → cuts ≡ cuts_of (costs_of g.edges (below g.vertices)) parts
     → IsRankOf plan.start names r.run.start → (0 < walker_count plan.start (length names) → 0 < length names)
     → weighted ≡ plan.weighted → factor ≡ greatest_factor plan.rule
     → None ≡ find (λ v. nat_lt (2 ^ 62) (row_reach g weighted factor v)) (below g.vertices)
-    → IsReadyFor edges plan seed r
-ready-for plan edges seed {r} g names weighted factor kept called by_plan by_seed many by part rank some weighs greatest none =
+    → IsReadyFor edges plan seed parts r
+ready-for plan edges seed parts {r} g names weighted factor cuts kept called by_plan by_seed many by count each cut rank some weighs greatest none =
     let here : IsRankedBy (vertices_of edges) edges g = subst (λ (ns : List ℕ). IsRankedBy ns edges g) called by in
-    let found : find (λ v. nat_lt (2 ^ 62) (row_reach g plan.weighted (greatest_factor plan.rule) v)) (below g.vertices) ≡ None =
-    ap (λ f. find (λ v. nat_lt (2 ^ 62) (row_reach g plan.weighted f v)) (below g.vertices)) (sym greatest)
-    ∙ ap (λ b. find (λ v. nat_lt (2 ^ 62) (row_reach g b factor v)) (below g.vertices)) (sym weighs) ∙ sym none in
     let long : length names ≡ length (vertices_of edges) = ap (λ (ns : List ℕ). length ns) called in
-    let fits : (v : ℕ) → Owns r.part v → reach_of r.part.edges plan v ≤ 2 ^ 62 = part-fits g r.part plan part.of_graph found in
+    let by_run : weighted ≡ r.run.plan.weighted = weighs ∙ ap (λ p. p.weighted) (sym by_plan) in
+    let by_rule : factor ≡ greatest_factor r.run.plan.rule = greatest ∙ ap (λ p. greatest_factor p.rule) (sym by_plan) in
+    let between : cuts ≡ cuts_in (ranked_graph (vertices_of edges) edges) parts =
+    cut ∙ ap (λ costs. cuts_of costs parts) (costs-ranked edges g here) in
+    let all : ArePartsOf (ranked_graph (vertices_of edges) edges) r.run.plan.weighted cuts r.parts.items =
+    subst (λ w. ArePartsOf (ranked_graph (vertices_of edges) edges) w cuts r.parts.items) by_run
+    (ranked-parts edges g weighted cuts r.parts.items here count each) in
     record {
       names = kept ∙ called;
       plan_is = by_plan;
       seed_is = by_seed;
       vertices = many ∙ long;
       rank = subst (λ (ns : List ℕ). IsRankOf plan.start ns r.run.start) called rank;
-      part = ranked-part edges g r.part here part.of_graph;
+      parts_are = subst (λ (cs : List ℕ). ArePartsOf (ranked_graph (vertices_of edges) edges) r.run.plan.weighted cs r.parts.items) between all;
       walkable = record {
-        suits = record {
-          vertices = many ∙ long ∙ sym here.vertices ∙ sym part.of_graph.vertices;
-          weighted = part.weights ∙ weighs ∙ ap (λ p. p.weighted) (sym by_plan);
-          fits = λ v owns. subst (λ (p : Settings). reach_of r.part.edges p v ≤ 2 ^ 62) (sym by_plan) (fits v owns);
-        };
-        all = λ v low. ap (λ cuts. owner cuts v) part.cuts_are ∙ sym part.part;
+        suits = λ k d low.
+            suits-part r.run g weighted factor cuts k (get_or r.parts.items k d) (each k d low) (many ∙ long ∙ sym here.vertices) by_run by_rule none;
+        graph = ranked_graph (vertices_of edges) edges;
+        cuts = cuts;
+        of_graph = all;
         some = subst (λ (p : Settings). 0 < walker_count p.start r.run.vertices → 0 < r.run.vertices) (sym by_plan)
             (subst (λ n. 0 < walker_count plan.start n → 0 < n) (sym many) some);
       };

@@ -89,7 +89,7 @@ task-of_files plan edges =
     (start-of_files plan.start vertices))
     (map-all (overflowing edges plan vertices) fault.Overflow IsOfFiles (λ id. refl))
 
-fault-of_files : (plan : Settings) (edges : List Edge) (f : WalkFault) → task_fault plan edges ≡ Some f → cause_of f ≡ OfFiles
+pub fault-of_files : (plan : Settings) (edges : List Edge) (f : WalkFault) → task_fault plan edges ≡ Some f → cause_of f ≡ OfFiles
 fault-of_files plan edges f is = subst (λ o. IfSome o IsOfFiles) is (task-of_files plan edges)
 
 -- the cause of a fault that a stage finds

@@ -7,11 +7,11 @@ ghost use Rattle.walk_top.specs.Verdicts.{Found, MayBe, fault_of_plan, plan_foun
 ghost use Rattle.walk_programme.specs.Programme.{plan_of};
 ghost use Rattle.walk_top.specs.ErrorLines.{HasLine};
 ghost use Rattle.walk_top.specs.Stages.{IsRefusal, IsFaultIn};
-ghost use Rattle.walk_top.specs.TextFaults.{IsTextFault};
 ghost use Rattle.walk_top.specs.Jobs.{quick_plan, files_of};
 ghost use Rattle.walk_top.specs.JobViews.{job_of, IsInRange};
 
 use crate::files::read_fault;
+use crate::texts::{TextFault, read_text};
 use crate::words::Words;
 use std::alloc::Global;
 use walk_io::Files;
@@ -20,41 +20,6 @@ use walk_programme::read_plan;
 
 /// How many bytes a programme may have.
 const MOST_BYTES: usize = 65536;
-
-/// Why there is no text of a programme's file: it can't be read, it is too long, or there was no memory.
-#[derive(Clone, Copy, Debug, PartialEq, Eq)]
-enum TextFault {
-    Read,
-    TooLong,
-    Memory,
-}
-
-/// The text of a programme's file, which is read from its beginning.
-fn read_text<F: Files>(alloc: Global, files: &mut F, name: &str) -> Result<Vec<u8>, TextFault>
-    ensures text { IfOk result (λ v. IfRead (F.told files.old name.now) (λ all. all ≡ v.items)) }
-    ensures short { IfOk result (λ v. length v.items ≤ 65536) }
-    ensures fault { IfErr result (IsTextFault (F.told files.old name.now) (F.faults files.old name.now) (F.faults files.new name.now)) }
-    ensures kept { (n : List ℕ) → F.told files.new n ≡ F.told files.old n }
-    ensures later { (n : List ℕ) → F.faults files.old n ≤ F.faults files.new n }
-{
-    let mut text = Vec::new(alloc);
-    let mut buffer = [0u8; 4096];
-    'reading: loop {
-        let count = match files.read_at(name, text.len() as u64, &mut buffer) {
-            Ok(0) => break 'reading,
-            Ok(count) => count,
-            Err(_) => return Err(TextFault::Read),
-        };
-        if count > MOST_BYTES - text.len() {
-            return Err(TextFault::TooLong);
-        }
-        match text.extend_from_slice(&buffer[..count]) {
-            Ok(()) => {}
-            Err(_) => return Err(TextFault::Memory),
-        }
-    }
-    Ok(text)
-}
 
 /// The fault of a programme as one of the whole call.
 fn fault_of_plan(fault: PlanFault) -> WalkFault
@@ -81,7 +46,11 @@ fn text_plan(alloc: Global, text: &[u8]) -> Result<Plan, WalkFault>
 }
 
 /// The plan of a programme's file.
-fn read_programme<F: Files>(alloc: Global, files: &mut F, name: &str) -> Result<Plan, WalkFault>
+pub(crate) fn read_programme<F: Files>(
+    alloc: Global,
+    files: &mut F,
+    name: &str,
+) -> Result<Plan, WalkFault>
     ensures plan { IfOk result (MayBe (named_plan (F.told files.old) name.now)) }
     ensures fault { IfErr result (IsFaultIn (λ told. named_plan told name.now) (record {
       names = name.now ∷ [];
@@ -93,7 +62,7 @@ fn read_programme<F: Files>(alloc: Global, files: &mut F, name: &str) -> Result<
     ensures kept { (n : List ℕ) → F.told files.new n ≡ F.told files.old n }
     ensures later { (n : List ℕ) → F.faults files.old n ≤ F.faults files.new n }
 {
-    match read_text(alloc, files, name) {
+    match read_text(alloc, files, name, MOST_BYTES) {
         Ok(text) => text_plan(alloc, &text),
         Err(TextFault::Read) => Err(read_fault(alloc, name)),
         Err(TextFault::TooLong) => Err(WalkFault::Limit {

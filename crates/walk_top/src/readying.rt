@@ -1,35 +1,38 @@
 //! What a plan and a graph are refused for together, and the graph made ready to be walked.
 
-ghost use Rattle.std.specs.Prelude.{◌≡◌, ◌≤◌, ◌<◌, ◌⊎◌, ◌^◌, length, All, IsTrue, Some, None, IfOk, IfErr};
+ghost use Rattle.std.specs.Prelude.{◌≡◌, ◌≤◌, ◌<◌, ◌⊎◌, ◌^◌, length, All, IsTrue, Some, None, IfOk, IfErr, IfNone};
 ghost use Rattle.walk_model.specs.declared.faults.WalkFault.TheVariants as fault;
 ghost use Rattle.walk_top.specs.Limits.{passed_limit, start_fault, count_fault, task_fault};
 ghost use Rattle.walk_top.specs.Readiness.{IsReadyFor};
 ghost use Rattle.walk_top.specs.Starts.{IsRankOf};
 ghost use Rattle.walk_model.specs.Walk.{walker_count};
 ghost use Rattle.traveller.specs.Runs.{start_fits};
+ghost use Rattle.vertex_partition.specs.Limits.{most_parts, most_vertices};
 
+use crate::cutting::cuts_between;
 use crate::ranking::rows_of;
 use std::alloc::Global;
 use traveller::Run;
 use vertex_names::Names;
-use vertex_partition::{PartRows, first_overflow, whole};
+use vertex_partition::{PartRows, first_overflow, split};
 use walk_model::limits::{MAX_PATH_ENTRIES, MAX_VERTICES};
 use walk_model::{Edge, Limit, Plan, StartRule, WalkFault, greatest_factor};
 
-/// A graph that is ready to be walked: the names of its vertices, what its walkers do, and the part with all its rows and their
-/// tables.
+/// A graph that is ready to be walked: the names of its vertices, what its walkers do, and its parts in order, each with its rows
+/// and their tables.
 #[derive(Drop)]
 pub(crate) struct Ready {
     pub names: Names,
     pub run: Run,
-    pub part: PartRows,
+    pub parts: Vec<PartRows>,
 }
 
 /// The limit that is passed by a number of vertices, of 16,777,216 at most, or else by the entries of the paths of walkers that
 /// take `length` steps each, of 134,217,728 at most.
 pub fn check_counts(vertices: u64, walkers: u64, length: u32) -> Option<Limit>
     requires { length ≤ 1048576 }
-    ensures { result ≡ passed_limit vertices walkers length }
+    ensures limit { result ≡ passed_limit vertices walkers length }
+    ensures few { IfNone result (vertices ≤ most_vertices) }
 {
     if vertices > MAX_VERTICES {
         return Some(Limit::Vertices);
@@ -82,6 +85,7 @@ fn judge_counts(plan: &Plan, names: &Names) -> Result<Option<u32>, WalkFault>
     ensures rank { IfOk result (IsRankOf plan.now.start names.now) }
     ensures fits { IfOk result (λ start. IsTrue (start_fits plan.now.start (length names.now) start)) }
     ensures some { IfOk result (λ _. 0 < walker_count plan.now.start (length names.now) → 0 < length names.now) }
+    ensures few { IfOk result (λ _. length names.now ≤ most_vertices) }
     ensures none { IfOk result (λ _. count_fault plan.now names.now ≡ None) }
     ensures fault { IfErr result (λ f. count_fault plan.now names.now ≡ Some f) }
 {
@@ -93,7 +97,7 @@ fn judge_counts(plan: &Plan, names: &Names) -> Result<Option<u32>, WalkFault>
     }
 }
 
-/// Makes a graph ready to be walked by a plan with a seed.
+/// Makes a graph ready to be walked by a plan with a seed, in so many parts.
 ///
 /// # Errors
 ///
@@ -104,11 +108,14 @@ pub(crate) fn make_ready(
     edges: Vec<Edge>,
     plan: Plan,
     seed: u64,
+    parts: u32,
 ) -> Result<Ready, WalkFault>
+    requires parts { 1 ≤ parts }
+    requires most { parts ≤ most_parts }
     requires few { length edges.items < 2 ^ 31 }
     requires weights { All (λ e. (1 ≤ e.weight) × (e.weight < 2 ^ 62)) edges.items }
     ensures none { IfOk result (λ _. task_fault plan edges.items ≡ None) }
-    ensures ready { IfOk result (IsReadyFor edges.items plan seed) }
+    ensures ready { IfOk result (IsReadyFor edges.items plan seed parts) }
     ensures fault { IfErr result (λ f. (task_fault plan edges.items ≡ Some f) ⊎ (f ≡ fault.Memory)) }
 {
     let Ok(names) = Names::of(alloc, &edges) else {
@@ -125,7 +132,10 @@ pub(crate) fn make_ready(
         None => {}
         Some(rank) => return Err(WalkFault::Overflow { id: names.id(rank) }),
     }
-    let Ok(part) = whole(alloc, rows, plan.weighted) else {
+    let Ok(cuts) = cuts_between(alloc, &rows, parts) else {
+        return Err(WalkFault::Memory);
+    };
+    let Ok(parts) = split(alloc, rows, plan.weighted, &cuts) else {
         return Err(WalkFault::Memory);
     };
     let run = Run {
@@ -134,5 +144,5 @@ pub(crate) fn make_ready(
         vertices: names.len(),
         start,
     };
-    Ok(Ready { names, run, part })
+    Ok(Ready { names, run, parts })
 }

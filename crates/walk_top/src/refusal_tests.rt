@@ -2,11 +2,13 @@
 
 use crate::tests::{CYCLE, add_file, answer_on, expect_walk, files_of, programme_of, words_of};
 use crate::top;
+use shard_core::Item;
 use std::alloc::{AllocError, Global};
 use std::process::Abort;
 use std::test::Fail;
 use walk_io::MemorySink;
 use walk_model::Memory;
+use walker_mail::{InOrder, NoGate};
 
 /// A piece so many times, one after the other.
 fn repeated(alloc: Global, piece: &str, times: u32) -> Result<String, AllocError> {
@@ -358,7 +360,17 @@ fn writes_fail(rt: HostRuntime) -> Result<(), Fail> {
     add_file(alloc, &mut files, "p", "foo = 1")?;
     let mut out = MemorySink::new(alloc, 4096, Vec::new(alloc), 4096)?;
     let mut err = MemorySink::new(alloc, 4096, vec![in alloc; 2]?, 7)?;
-    assert!(rt; top(&rt, &words, &mut files, &mut out, &mut err) == 3);
+    let mut carrier: InOrder<Item> = InOrder::new(alloc);
+    let status = top(
+        &rt,
+        &words,
+        &mut files,
+        &mut out,
+        &mut err,
+        &mut carrier,
+        &NoGate,
+    );
+    assert!(rt; status == 3);
     assert!(rt; out.bytes.is_empty());
     assert!(rt; err.bytes.as_slice() == b"error: ".as_slice());
     Ok(())

@@ -64,10 +64,10 @@ fn counts_within_their_limits(rt: HostRuntime) -> Result<(), Fail> {
 }
 
 /// A line of an edge list: source, destination, weight and type.
-type Line = (u32, u32, u64, u8);
+pub(crate) type Line = (u32, u32, u64, u8);
 
 /// Ids far apart, parallel edges that lead back and away, loops, rows of one edge, and vertices without a row.
-const TANGLE: [Line; 30] = [
+pub(crate) const TANGLE: [Line; 30] = [
     (3, 8, 5, 0),
     (3, 8, 1, 1),
     (3, 3, 2, 0),
@@ -101,7 +101,7 @@ const TANGLE: [Line; 30] = [
 ];
 
 /// A path of twelve vertices whose weights double, which is walked to and fro where it is undirected.
-const PATH: [Line; 11] = [
+pub(crate) const PATH: [Line; 11] = [
     (0, 1, 1, 1),
     (1, 2, 2, 0),
     (2, 3, 4, 1),
@@ -116,7 +116,7 @@ const PATH: [Line; 11] = [
 ];
 
 /// A wheel: a rim of eight vertices, each with a spoke to the hub and one back.
-const WHEEL: [Line; 24] = [
+pub(crate) const WHEEL: [Line; 24] = [
     (1, 2, 3, 0),
     (2, 3, 1, 1),
     (3, 4, 4, 0),
@@ -144,7 +144,7 @@ const WHEEL: [Line; 24] = [
 ];
 
 /// The text of a graph's lines.
-fn text_of(alloc: Global, lines: &[Line]) -> Result<String, Memory> {
+pub(crate) fn text_of(alloc: Global, lines: &[Line]) -> Result<String, Memory> {
     let mut text = String::new(alloc);
     for (src, dst, weight, kind) in lines {
         let line = format!(in alloc; "{src} {dst} {weight} {kind}\n")?;
@@ -154,7 +154,11 @@ fn text_of(alloc: Global, lines: &[Line]) -> Result<String, Memory> {
 }
 
 /// The edges of a graph's lines: where it is undirected, the mirror of an edge that is no loop stands after it.
-fn edges_of(alloc: Global, lines: &[Line], undirected: bool) -> Result<Vec<Edge>, Memory> {
+pub(crate) fn edges_of(
+    alloc: Global,
+    lines: &[Line],
+    undirected: bool,
+) -> Result<Vec<Edge>, Memory> {
     let mut edges = Vec::new(alloc);
     for line in lines {
         let (src, dst, weight, kind) = *line;
@@ -188,7 +192,7 @@ fn push_walk(alloc: Global, text: &mut String, walk: &[u32]) -> Result<(), Memor
 }
 
 /// The lines of the walks of a plan's walkers by the definition.
-fn plain_lines(alloc: Global, edges: &[Edge], plan: &Plan) -> Result<String, Memory> {
+pub(crate) fn plain_lines(alloc: Global, edges: &[Edge], plan: &Plan) -> Result<String, Memory> {
     let mut text = String::new(alloc);
     for walker in 0..1000 {
         if !can_walk(alloc, edges, plan, walker)? {
@@ -224,7 +228,7 @@ fn expect_plain<R: Abort + AllocGlobal>(
 }
 
 /// Plans of every rule.
-const PLANS: [&str; 45] = [
+pub(crate) const PLANS: [&str; 45] = [
     "length = 20",
     "length = 20; weighted = false",
     "length = 20; undirected = true",

@@ -1,7 +1,7 @@
 use Rattle.std.proofs.Common.{◌≡◌, ◌+◌, ◌++◌, length, take, arith, ◌∙◌, ap}
 use Rattle.std.proofs.lemmas.List.{length-append, length-take-le}
 use Rattle.walk_top.proofs.ReadLemmas.{read-front, stands-moved}
-use Rattle.walk_top.proofs.programmes.read_text.Goals as goal
+use Rattle.walk_top.proofs.texts.read_text.Goals as goal
 
 pub reading-preserved : goal.reading-preserved
 reading-preserved g c =

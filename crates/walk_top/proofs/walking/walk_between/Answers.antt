@@ -1,0 +1,20 @@
+use Rattle.std.proofs.lemmas.Result.{IfOk-weaker}
+use Rattle.walk_top.proofs.CarriageLemmas.{on-both}
+use Rattle.walk_top.proofs.walking.walk_between.Goals as goal
+
+pub run-requires-clause-begun : goal.run-requires-clause-begun
+run-requires-clause-begun g c =
+    let w = c.requires.walkable in
+    record { graph = w.graph; run = c.args.run; cuts = w.cuts; begun = c.in_ok-world.ensures w.graph w.cuts w.of_graph }
+
+pub returns-clause-walks : goal.returns-clause-walks
+returns-clause-walks g c =
+    IfOk-weaker c.run.result _ _ (λ f is q cuts of. is q c.args.run cuts (c.in_ok-world.ensures q cuts of)) c.run.ensures.walks
+
+pub returns-clause-carried : goal.returns-clause-carried
+returns-clause-carried g c =
+    on-both c.run.result _ _ _
+    (λ carried logged q cuts of.
+    (let begun = c.in_ok-world.ensures q cuts of in
+    record { carried = carried q c.args.run cuts begun; logged = logged q c.args.run cuts begun }))
+    c.run.ensures.carried c.run.ensures.logged
