@@ -96,6 +96,17 @@ fn walk_has_places_and_options(rt: HostRuntime) -> Result<(), Fail> {
                 "walk - p 18446744073709551615 1 1",
             ),
             ("walk g - --seed 0", "walk g - 0 1 1"),
+            ("walk g p --seed 1 --parts 256", "walk g p 1 256 1"),
+        ],
+    )?;
+    Ok(())
+}
+
+#[test]
+fn other_places_and_options_are_refused(rt: HostRuntime) -> Result<(), Fail> {
+    expect_jobs(
+        &rt,
+        &[
             ("walk g p --seed 18446744073709551616", "none"),
             ("walk g", "none"),
             ("walk g --seed 1", "none"),
@@ -104,7 +115,6 @@ fn walk_has_places_and_options(rt: HostRuntime) -> Result<(), Fail> {
             ("walk g p --seed 1 --seed 2", "none"),
             ("walk g p --seed 1 --seed=1", "none"),
             ("walk g p --seed 1 --parts 0", "none"),
-            ("walk g p --seed 1 --parts 256", "walk g p 1 256 1"),
             ("walk g p --seed 1 --parts 257", "none"),
             ("walk g p --seed 1 --workers 0", "none"),
             ("walk g p --seed 1 --workers=2", "none"),
