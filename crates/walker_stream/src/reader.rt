@@ -1,37 +1,34 @@
-//! A reader along one stream.
+//! A reader along one stream, and words that are carried from one reader to another.
 
-ghost use Rattle.std.specs.Prelude.{◌≡◌, ℕ, ◌≤◌, ◌<◌, ◌+◌, ◌*◌, ◌^◌, slice_index};
-ghost use Rattle.rand_chacha.specs.ChaCha.{key_of};
-ghost use Rattle.walk_model.specs.Words.{word, draw, coin, key_bytes};
+ghost use Rattle.std.specs.Prelude.{◌≡◌, ℕ, ◌≤◌, ◌<◌, ◌+◌, ◌^◌, slice_index};
+ghost use Rattle.walk_model.specs.Words.{word, draw, coin};
 ghost use Rattle.walker_stream.specs.Folds.{HasFairFolds, HasFairCoins};
-ghost use Rattle.walker_stream.specs.Standing.{standing, pair_at};
+ghost use Rattle.walker_stream.specs.Standing.{standing};
 
 use crate::folds::fold;
+use crate::generating::{HELD, generator_of, renew};
 use rand_chacha::ChaCha8Rng;
-use rand_core::SeedableRng;
-use rand_core::utils::NextWord;
 use std::marker::Model;
 use walk_model::Fraction;
 
-/// Words of 64 bits that one refill gives: those of four blocks.
-const HELD: usize = 32;
-
-/// Words of 64 bits in a block. A generator placed where a block begins makes no block twice.
-const BLOCK: u64 = 8;
+/// The greatest number of words that are carried.
+const CARRIED: usize = 8;
 
 /// Reads the words of a walker's stream one after another, from any place on.
 ///
-/// It holds the 32 words of one refill, and moves among them without another.
+/// It holds up to 32 words, and moves among them without a refill. A refill is made where a word is asked for
+/// that it doesn't hold.
 #[derive(Drop)]
 pub struct StreamReader {
     seed: u64,
     walker: u64,
-    // the place of the first word that is held
-    first: u64,
-    // how many of the words that are held were read or passed
+    // the place of the next word less `index`, below 0 wrapped
+    origin: u64,
+    // how many of `words` aren't the stream's; where none is, the generator stands behind the last one
+    unknown: usize,
+    // where the next word stands in `words`
     index: usize,
     words: [u64; HELD],
-    // stands at the first word behind those that are held
     generator: ChaCha8Rng,
 }
 
@@ -40,58 +37,86 @@ impl Model for StreamReader {
 
     ghost Value = { Standing };
 
-    ghost use Rattle.std.specs.Prelude.{◌+◌};
-    ghost use Rattle.walker_stream.specs.Held.{Holds};
+    ghost use Rattle.walker_stream.specs.Held.{Holds, place_by};
 
-    ghost view = { λ r. record { seed = r.seed; walker = r.walker; place = r.first + r.index } };
+    ghost view = { λ r. record { seed = r.seed; walker = r.walker; place = place_by r.origin r.index } };
 
     ghost invariant = { λ r. Holds r };
 }
 
-/// The key of a seed: its bytes, the least significant first, and zeros.
-#[tactic(auto, unfolding(walk_model::specs::Words::key_bytes))]
-fn key_of_seed(seed: u64) -> [u8; 32]
-    ensures { result ≡ key_bytes seed }
-{
-    let mut key = [0u8; 32];
-    key[..8].copy_from_slice(&seed.to_le_bytes());
-    key
+/// The next words of a walker's stream from a place on, eight at most, which are carried from one reader to
+/// another: with them that one needs no refill.
+#[derive(Debug, Drop)]
+pub struct CarriedWords {
+    seed: u64,
+    walker: u64,
+    place: u64,
+    // how many of `words` aren't the stream's; the next word stands behind them
+    unknown: usize,
+    words: [u64; CARRIED],
 }
 
-/// A generator at a place of a stream, counted in words of 64 bits.
-fn generator_at(seed: u64, walker: u64, place: u64) -> ChaCha8Rng
-    ensures { result ≡ record { key = key_of (key_bytes seed); stream = walker; word_pos = 2 * place } }
-{
-    let mut generator = ChaCha8Rng::from_seed(key_of_seed(seed));
-    generator.set_stream(walker);
-    generator.set_word_pos(2 * u128::from(place));
-    generator
+impl Model for CarriedWords {
+    ghost use Rattle.walker_stream.specs.Standing.{Standing};
+
+    ghost Value = { Standing };
+
+    ghost use Rattle.walker_stream.specs.Held.{Carries};
+
+    ghost view = { λ c. record { seed = c.seed; walker = c.walker; place = c.place } };
+
+    ghost invariant = { λ c. Carries c };
 }
 
-/// The word at a place of a stream, with no reader.
-#[tactic(auto, unfolding(walk_model::specs::Words::word))]
-pub(crate) fn word_at(seed: u64, walker: u64, place: u64) -> u64
-    ensures { result ≡ word seed walker place }
-{
-    let mut generator = generator_at(seed, walker, place);
-    let low = generator.next_word();
-    let high = generator.next_word();
-    u64::from(low) + 0x1_0000_0000 * u64::from(high)
-}
-
-/// The next 32 words of 64 bits of a generator.
-#[inline(never)]
-fn refill(generator: &mut ChaCha8Rng, words: &mut [u64; HELD])
-    requires room { generator.old.word_pos + 64 < 2 ^ 68 }
-    ensures moved { generator.new ≡ record generator.old { word_pos = generator.old.word_pos + 64 } }
-    ensures words { (k : ℕ) → k < 32
-        → slice_index words.new k ≡ pair_at generator.old.key generator.old.stream (generator.old.word_pos + 2 * k) }
-{
-    for k in 0..HELD {
-        let low = generator.next_word();
-        let high = generator.next_word();
-        words[k] = u64::from(low) + 0x1_0000_0000 * u64::from(high);
+impl CarriedWords {
+    /// No words, of a walker's stream at a place: a reader that takes them up makes its own.
+    pub fn none(seed: u64, walker: u64, place: u64) -> CarriedWords
+        ensures { result ≡ standing seed walker place }
+    {
+        CarriedWords {
+            seed,
+            walker,
+            place,
+            unknown: CARRIED,
+            words: [0; CARRIED],
+        }
     }
+
+    /// The walker of their stream.
+    #[inline]
+    pub fn walker(&self) -> u64
+        ensures { result ≡ self.now.walker }
+    {
+        self.walker
+    }
+
+    /// A reader that stands where they do, and holds them.
+    pub fn reader(&self) -> StreamReader
+        ensures { result ≡ self.now }
+    {
+        let mut reader = StreamReader::at(self.seed, self.walker, self.place);
+        reader.take_up(self);
+        reader
+    }
+}
+
+/// The words from a place of an array on.
+#[inline]
+fn words_from(words: &[u64; HELD], start: usize) -> [u64; CARRIED]
+    requires { start ≤ 24 }
+    ensures { (k : ℕ) → k < 8 → slice_index result k ≡ slice_index words.now (start + k) }
+{
+    let mut some = [0; CARRIED];
+    some.copy_from_slice(&words[start..start + CARRIED]);
+    some
+}
+
+/// Puts words at the end of an array.
+#[inline]
+fn put_last(words: &mut [u64; HELD], last: &[u64; CARRIED])
+    ensures { (k : ℕ) → k < 8 → slice_index words.new (24 + k) ≡ slice_index last.now k }
+{
+    words[HELD - CARRIED..].copy_from_slice(last);
 }
 
 impl StreamReader {
@@ -99,17 +124,14 @@ impl StreamReader {
     pub(crate) fn at(seed: u64, walker: u64, place: u64) -> StreamReader
         ensures { result ≡ standing seed walker place }
     {
-        let index = place % BLOCK;
-        let mut generator = generator_at(seed, walker, place - index);
-        let mut words = [0u64; HELD];
-        refill(&mut generator, &mut words);
         StreamReader {
             seed,
             walker,
-            first: place - index,
-            index: index as usize,
-            words,
-            generator,
+            origin: place.wrapping_sub(HELD as u64),
+            unknown: HELD,
+            index: HELD,
+            words: [0; HELD],
+            generator: generator_of(seed),
         }
     }
 
@@ -134,7 +156,7 @@ impl StreamReader {
     pub fn place(&self) -> u64
         ensures { result ≡ self.now.place }
     {
-        self.first + self.index as u64
+        self.origin.wrapping_add(self.index as u64)
     }
 
     /// The next word.
@@ -145,9 +167,17 @@ impl StreamReader {
         ensures moved { self.new ≡ record self.old { place = self.old.place + 1 } }
     {
         if self.index >= HELD {
-            self.first += self.index as u64;
-            self.index = 0;
-            refill(&mut self.generator, &mut self.words);
+            let place = self.place();
+            let there = self.unknown == 0;
+            self.index = renew(
+                &mut self.generator,
+                &mut self.words,
+                self.walker,
+                place,
+                there,
+            );
+            self.origin = place - self.index as u64;
+            self.unknown = 0;
         }
         let word = self.words[self.index];
         self.index += 1;
@@ -162,22 +192,47 @@ impl StreamReader {
         ensures stays { self.new ≡ self.old }
     {
         if self.index >= HELD {
-            self.first += self.index as u64;
-            self.index = 0;
-            refill(&mut self.generator, &mut self.words);
+            let place = self.place();
+            let there = self.unknown == 0;
+            self.index = renew(
+                &mut self.generator,
+                &mut self.words,
+                self.walker,
+                place,
+                there,
+            );
+            self.origin = place - self.index as u64;
+            self.unknown = 0;
         }
         self.words[self.index]
     }
 
-    /// Moves to a place of a walker's stream, with a refill only where it doesn't hold that word.
+    /// Moves to a place of a walker's stream. Where it holds that word, the word is made no second time.
     #[inline]
     pub fn seek(&mut self, walker: u64, place: u64)
         ensures { self.new ≡ standing self.old.seed walker place }
     {
-        if walker == self.walker && place >= self.first && place - self.first < HELD as u64 {
-            self.index = (place - self.first) as usize;
+        if walker != self.walker || place != self.place() {
+            self.move_to(walker, place);
+        }
+    }
+
+    /// Moves to another place, or to another walker's stream.
+    #[inline(never)]
+    fn move_to(&mut self, walker: u64, place: u64)
+        ensures { self.new ≡ standing self.old.seed walker place }
+    {
+        let here = self.place();
+        let same = walker == self.walker;
+        if same && here <= place && place - here <= (HELD - self.index) as u64 {
+            self.index += (place - here) as usize;
+        } else if same && place < here && here - place <= (self.index - self.unknown) as u64 {
+            self.index -= (here - place) as usize;
         } else {
-            self.jump(walker, place);
+            self.walker = walker;
+            self.origin = place.wrapping_sub(HELD as u64);
+            self.unknown = HELD;
+            self.index = HELD;
         }
     }
 
@@ -202,18 +257,35 @@ impl StreamReader {
         *self = StreamReader::at(seed, walker, place);
     }
 
-    /// Moves to a place of a walker's stream with a refill.
-    #[inline(never)]
-    fn jump(&mut self, walker: u64, place: u64)
-        ensures { self.new ≡ standing self.old.seed walker place }
+    /// The next words that it holds, to be carried to another reader.
+    #[inline]
+    pub fn pack(&self) -> CarriedWords
+        ensures { result ≡ self.now }
     {
-        let index = place % BLOCK;
-        self.generator.set_stream(walker);
-        self.generator.set_word_pos(2 * u128::from(place - index));
-        refill(&mut self.generator, &mut self.words);
-        self.walker = walker;
-        self.first = place - index;
-        self.index = index as usize;
+        let start = self.index.min(HELD - CARRIED);
+        CarriedWords {
+            seed: self.seed,
+            walker: self.walker,
+            place: self.place(),
+            unknown: self.index - start,
+            words: words_from(&self.words, start),
+        }
+    }
+
+    /// Stands where carried words do, and holds them: it runs no generator before they are read. One is keyed anew
+    /// only where their seed is another.
+    #[inline]
+    pub fn take_up(&mut self, carried: &CarriedWords)
+        ensures { self.new ≡ carried.now }
+    {
+        if carried.seed != self.seed {
+            self.begin_anew(carried.seed, carried.walker, carried.place);
+        }
+        put_last(&mut self.words, &carried.words);
+        self.walker = carried.walker;
+        self.index = HELD - CARRIED + carried.unknown;
+        self.unknown = self.index;
+        self.origin = carried.place.wrapping_sub(self.index as u64);
     }
 
     /// A number below a bound, from at most 64 words on. Where none of them has a fold, the last one

@@ -5,7 +5,8 @@ ghost use Rattle.walk_model.specs.Words.{word, draw};
 ghost use Rattle.walker_stream.specs.Folds.{HasFairFolds, HasFairCoins};
 ghost use Rattle.walker_stream.specs.Standing.{standing};
 
-use crate::reader::{StreamReader, word_at};
+use crate::generating::word_at;
+use crate::reader::StreamReader;
 
 /// The random words of a seed, one stream for each walker.
 #[derive(Clone, Copy, Debug, PartialEq, Eq)]

@@ -1,4 +1,5 @@
 use super::*;
+use std::process::Abort;
 use std::test::Fail;
 use walk_model::Fraction;
 
@@ -77,5 +78,77 @@ fn a_reader_follows(rt: HostRuntime) -> Result<(), Fail> {
         );
         assert_eq!(rt; reader.next(), Streams::new(seed).word(walker, place));
     }
+    Ok(())
+}
+
+/// Reads some words of a reader, which must be those of a stream from a place on.
+fn expect_words<R: Abort>(
+    rt: &R,
+    reader: &mut StreamReader,
+    seed: u64,
+    walker: u64,
+    place: u64,
+    count: u64,
+) {
+    let streams = Streams::new(seed);
+    for k in 0..count {
+        let stands = reader.place();
+        assert!(rt; stands < 1_000_000 && place < 1_000_000 && k < 1_000_000);
+        assert_eq!(rt;
+            (reader.seed(), reader.walker(), stands),
+            (seed, walker, place + k)
+        );
+        assert_eq!(rt; reader.next(), streams.word(walker, place + k));
+    }
+}
+
+/// Words that one reader packs after some, and another takes up: until they are read, just after, and past a
+/// refill. The first place is inside a block of the generator, at its border, and at the start of the stream.
+#[test]
+fn words_that_are_carried(rt: HostRuntime) -> Result<(), Fail> {
+    for (seed, walker, place) in [
+        (7, 5, 30),
+        (7, 6, 32),
+        (0, 0, 0),
+        (18446744073709551615, 1, 7),
+    ] {
+        for read in [0, 1, 7, 8, 9, 23, 24, 25, 31, 32, 33] {
+            let mut first = Streams::new(seed).reader(walker, place);
+            expect_words(&rt, &mut first, seed, walker, place, read);
+            let carried = first.pack();
+            assert_eq!(rt; carried.walker(), walker);
+            // one that has read words of another stream, or of another seed
+            for other in [seed, 9] {
+                for count in [7, 8, 9, 50] {
+                    let mut second = Streams::new(other).reader(walker ^ 1, place);
+                    let _before = (second.next(), second.next());
+                    second.take_up(&carried);
+                    expect_words(&rt, &mut second, seed, walker, place + read, count);
+                }
+            }
+            expect_words(&rt, &mut carried.reader(), seed, walker, place + read, 10);
+            expect_words(&rt, &mut first, seed, walker, place + read, 10);
+        }
+    }
+    Ok(())
+}
+
+/// Carried words are packed once more after some of them, and moved among.
+#[test]
+fn words_that_are_carried_on(rt: HostRuntime) -> Result<(), Fail> {
+    let mut reader = Streams::new(7).reader(5, 3);
+    for hop in 0..30u64 {
+        expect_words(&rt, &mut reader, 7, 5, 3 + hop, 1);
+        let carried = reader.pack();
+        reader.seek(hop, 40);
+        let _other = reader.next();
+        reader.take_up(&carried);
+    }
+    for place in [34, 33, 35, 40, 32, 5, 60, 61, 29] {
+        reader.seek(5, place);
+        expect_words(&rt, &mut reader, 7, 5, place, 2);
+    }
+    let mut none = CarriedWords::none(7, 5, 29).reader();
+    expect_words(&rt, &mut none, 7, 5, 29, 40);
     Ok(())
 }
