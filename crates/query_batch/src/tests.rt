@@ -11,6 +11,7 @@ use std::marker::Brand;
 use std::process::Abort;
 use std::sync::ledger::{Blank, Ledger};
 use std::test::Fail;
+use std::thread::Threads;
 use vertex_partition::{Cuts, PartRows, split, whole};
 use walk_model::{Ask, Edge, Found, Memory, Question, Reply, Steps};
 
@@ -149,7 +150,7 @@ fn expect_replies<L: Ledger, R: Abort + AllocGlobal>(
 }
 
 /// Asserts the replies of all parts of a graph that is cut into so many. Each ask has one reply.
-fn expect_parts<L: Ledger, R: Abort + AllocGlobal>(
+fn expect_parts<L: Ledger, R: Abort + Threads + Sync + AllocGlobal>(
     rt: &R,
     count: u32,
     cases: &[Case<'_>],
@@ -160,7 +161,7 @@ fn expect_parts<L: Ledger, R: Abort + AllocGlobal>(
     let cuts = Cuts::balanced(rt.alloc(), &[5, 2, 4, 1, 1], count)?;
     let rows = hub(rt.alloc())?;
     assert_eq!(rt; cuts.vertices(), rows.vertices());
-    let parts = split(rt.alloc(), rows, false, &cuts)?;
+    let parts = split(rt, rows, false, &cuts)?;
     let mut answered = 0usize;
     for part in &parts {
         let replies = expect_replies(rt, part, cases, steps)?;
@@ -170,7 +171,7 @@ fn expect_parts<L: Ledger, R: Abort + AllocGlobal>(
     Ok(())
 }
 
-fn expect_batch<L: Ledger, R: Abort + AllocGlobal>(
+fn expect_batch<L: Ledger, R: Abort + Threads + Sync + AllocGlobal>(
     rt: &R,
     cases: &[Case<'_>],
     steps: &mut Steps<L>,
@@ -181,11 +182,11 @@ fn expect_batch<L: Ledger, R: Abort + AllocGlobal>(
 }
 
 /// Asserts what walkers are told of the cycle.
-fn expect_cycle<L: Ledger, R: Abort + AllocGlobal>(
+fn expect_cycle<L: Ledger, R: Abort + Threads + Sync + AllocGlobal>(
     rt: &R,
     steps: &mut Steps<L>,
 ) -> Result<(), Memory> {
-    let part = whole(rt.alloc(), cycle(rt.alloc())?, false)?;
+    let part = whole(rt, cycle(rt.alloc())?, false)?;
     let near = edge_case(0, 1, true);
     let row = row_case(0, &[1]);
     assert_eq!(rt; expect_replies(rt, &part, &[near, near], steps)?, 2);
@@ -193,7 +194,10 @@ fn expect_cycle<L: Ledger, R: Abort + AllocGlobal>(
     Ok(())
 }
 
-fn expect_all<L: Ledger, R: Abort + AllocGlobal>(rt: &R, blank: Blank) -> Result<(), Memory>
+fn expect_all<L: Ledger, R: Abort + Threads + Sync + AllocGlobal>(
+    rt: &R,
+    blank: Blank,
+) -> Result<(), Memory>
     requires name { blank.name ≡ L.name }
     requires parts { blank.parts ≡ L.parts }
     requires some { 0 < blank.parts }

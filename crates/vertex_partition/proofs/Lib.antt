@@ -1,5 +1,6 @@
 mod CutLemmas
 pub mod OwnerLaws
+mod OkLemmas
 mod PartLemmas
 pub mod ReachLaws
 mod TablingLemmas

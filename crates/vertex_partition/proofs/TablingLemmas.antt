@@ -1,16 +1,19 @@
 -- Tables that are made one after another, and shared.
 use Rattle.std.proofs.Common.{◌≡◌, ◌<◌, ◌≤◌, ◌+◌, ℕ, suc, Bool, true, false, List, [], ◌∷◌, ◌++◌, length, map, set, get_or, replicate, Option, Some, None, refl, ap, sym, subst, ◌∙◌, inl, inr, arith}
-use Rattle.std.specs.Prelude.{All, unwrap_or, not, IsTrue}
+use Rattle.std.specs.Prelude.{All, unwrap_or, not, IfNone, IsTrue, ◌⊎◌}
+use Rattle.std.specs.List.{AllZip}
 use Rattle.std.proofs.lemmas.Bool.{cases_eq, cases_lt}
-use Rattle.std.proofs.lemmas.List.{length-append, length-map, get_or-set_same, get_or-set_other, get_or-replicate, get_or_past, length-replicate}
+use Rattle.std.proofs.lemmas.List.{length-append, length-map, get_or-set_same, get_or-set_other, get_or-replicate, get_or_past, length-replicate, get_or-append-add}
 use Rattle.std.proofs.Math.ListN.{get_or-append}
 use Rattle.std.proofs.Math.Seq.{get_or-append_seam}
 use Rattle.walk_model.specs.declared.graph.Edge.{Edge}
 use Rattle.walk_model.specs.Graph.{weights_of}
 use Rattle.csr_store.specs.declared.out_edge.OutEdge.{OutEdge}
 use Rattle.csr_store.specs.OutEdges.{out_edge}
-use Rattle.vertex_partition.specs.Tabled.{HasTable, Keeps, AreShared}
+use Rattle.vertex_partition.specs.Tabled.{HasTable, Keeps, AreOwn, AreShared, AreTables, AreTablesBut, IsAmong, row_weights}
+use Rattle.csr_store.specs.RowGraph.{RangeGraph, mark_of}
 use Rattle.vertex_partition.specs.OutWeights.{out_weight}
+use Rattle.vertex_partition.proofs.OkLemmas.{zip-long, zip-at}
 
 -- the last table has the number of those before it
 pub has-last : (ts : List (List ℕ)) (ws : List ℕ) (k : ℕ) → k ≡ length ts → HasTable (ts ++ ws ∷ []) k ws
@@ -79,15 +82,87 @@ no-weights weighted (e ∷ es) out is none =
     absurd (omega (arith, long, none, length-map (e ∷ es) out_edge))
 
 -- one more vertex whose table is known, while tables come
-pub each-more : (before after : List (List ℕ)) (size : ℕ → ℕ) (of : ℕ → List ℕ) (mark mark' : ℕ → ℕ) (first v : ℕ) → Keeps before after
-    → ((u : ℕ) → first ≤ u → u < v → mark' u ≡ mark u)
-    → ((u : ℕ) → first ≤ u → u < v → 0 < size u → HasTable before (mark u) (of u))
+pub each-known : (before after : List (List ℕ)) (lone : List ℕ) (size : ℕ → ℕ) (of : ℕ → List ℕ) (mark mark' : ℕ → ℕ) (first v : ℕ)
+    → Keeps before after → ((u : ℕ) → first ≤ u → u < v → mark' u ≡ mark u)
+    → ((u : ℕ) → first ≤ u → u < v → 0 < size u → HasTable before (mark u) (of u) ⊎ IsAmong 0 lone u)
     → (0 < size v → HasTable after (mark' v) (of v))
-    → (u : ℕ) → first ≤ u → u < v + 1 → 0 < size u → HasTable after (mark' u) (of u)
-each-more before after size of mark mark' first v keeps same each last u from low some =
+    → (u : ℕ) → first ≤ u → u < v + 1 → 0 < size u → HasTable after (mark' u) (of u) ⊎ IsAmong 0 lone u
+each-known before after lone size of mark mark' first v keeps same each last u from low some =
     elim (cases_eq u v) [
-      | inl here ↦ rw here (last (rw here at some))
+      | inl here ↦ inl (rw here (last (rw here at some)))
       | inr other ↦
           let there : u < v = omega arith in
-          rw (same u from there) (keeps (mark u) (of u) (each u from there some))
+          elim (each u from there some) [
+            | inl has ↦ inl (rw (same u from there) (keeps (mark u) (of u) has))
+            | inr among ↦ inr among
+          ]
     ]
+
+-- one more vertex that is listed
+pub each-listed : (tables : List (List ℕ)) (lone : List ℕ) (size : ℕ → ℕ) (of : ℕ → List ℕ) (mark : ℕ → ℕ) (first v : ℕ)
+    → ((u : ℕ) → first ≤ u → u < v → 0 < size u → HasTable tables (mark u) (of u) ⊎ IsAmong 0 lone u)
+    → (u : ℕ) → first ≤ u → u < v + 1 → 0 < size u → HasTable tables (mark u) (of u) ⊎ IsAmong 0 (lone ++ v ∷ []) u
+each-listed tables lone size of mark first v each u from low some =
+    let long = length-append lone (v ∷ []) in
+    elim (cases_eq u v) [
+      | inl here ↦ inr (length lone, omega arith, omega (arith, long), get_or-append_seam lone v [] 0 ∙ sym here)
+      | inr other ↦ elim (each u from (omega arith) some) [
+        | inl has ↦ inl has
+        | inr among ↦ inr (among.0, among.1, omega (arith, long, among.2), get_or-append lone (v ∷ []) 0 among.0 among.2 ∙ among.3)
+      ]
+    ]
+
+-- one more vertex of the list gets the number of its table
+pub each-numbered : (tables : List (List ℕ)) (lone : List ℕ) (In : ℕ → Type 0) (size : ℕ → ℕ) (of : ℕ → List ℕ) (mark mark' : ℕ → ℕ) (place v : ℕ)
+    → get_or lone place 0 ≡ v → ((u : ℕ) → In u → (u ≡ v → ⊥) → mark' u ≡ mark u) → HasTable tables (mark' v) (of v)
+    → ((u : ℕ) → In u → 0 < size u → HasTable tables (mark u) (of u) ⊎ IsAmong place lone u)
+    → (u : ℕ) → In u → 0 < size u → HasTable tables (mark' u) (of u) ⊎ IsAmong (place + 1) lone u
+each-numbered tables lone In size of mark mark' place v stands same last each u inside some =
+    elim (cases_eq u v) [
+      | inl here ↦ inl (rw here last)
+      | inr other ↦ elim (each u inside some) [
+        | inl has ↦ inl (rw (same u inside other) has)
+        | inr among ↦ elim (cases_eq among.0 place) [
+          | inl first ↦ absurd (other (sym among.3 ∙ ap (λ k. get_or lone k 0) first ∙ stands))
+          | inr later ↦ inr (among.0, omega (arith, among.1), among.2, among.3)
+        ]
+      ]
+    ]
+
+-- none is left at the end of the list
+pub none-left : (lone : List ℕ) (place v : ℕ) → length lone ≤ place → IsAmong place lone v → ⊥
+none-left lone place v end among = absurd (omega (arith, end, among.1, among.2))
+
+-- behind the shared tables each table of its own has the number of its place
+pub own-number : (made own : List (List ℕ)) (lone : List ℕ) (of : ℕ → List ℕ) (place : ℕ) → AllZip (λ v t. t ≡ of v) lone own → place < length lone
+    → HasTable (made ++ own) (length made + place) (of (get_or lone place 0))
+own-number made own lone of place zip low =
+    let long = zip-long lone of own zip in (
+      omega (arith, low, long, length-append made own),
+      λ d. get_or-append-add made own place d ∙ zip-at lone of own place d zip low,
+    )
+
+-- what holds where there is none, of none
+pub none-of : (o : Option ℕ) (P : Type 0) → ((n : ℕ) → o ≡ Some n → ⊥) → IfNone o P → P
+none-of None P none h = h
+none-of (Some n) P none h = absurd (none n refl)
+
+-- the tables of all rows: the shared ones, and behind them those of the listed vertices, when these are marked
+pub all-tabled : (weighted : Bool) (g h : RangeGraph) (made own tables : List (List ℕ)) (lone listed : List ℕ) (first : ℕ)
+    → listed ≡ lone → first ≡ length made → tables ≡ made ++ own → AreTablesBut weighted g made 0 lone
+    → AllZip (λ v t. t ≡ row_weights weighted g v) listed own
+    → ((weighted : Bool) (tables : List (List ℕ)) → AreTablesBut weighted g tables 0 listed → AreOwn weighted g tables first listed → AreTables weighted h tables)
+    → AreTables weighted h tables
+all-tabled weighted g h made own tables lone listed first same count is but zip marked =
+    marked weighted tables kept numbered
+  where
+    kept : AreTablesBut weighted g tables 0 listed
+    kept v inside some =
+        rw (same, is)
+        (elim (but v inside some) [
+          | inl has ↦ inl (omega (arith, has.0, length-append made own), λ d. get_or-append made own d (mark_of g v) has.0 ∙ has.1 d)
+          | inr among ↦ inr among
+        ])
+
+    numbered : AreOwn weighted g tables first listed
+    numbered k low = rw (is, count) (own-number made own listed (row_weights weighted g) k zip low)

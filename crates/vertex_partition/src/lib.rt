@@ -2,9 +2,12 @@
 #![tactic(auto)]
 
 mod cuts;
+mod own_tables;
 mod parts;
 mod reaching;
 mod splitting;
+#[cfg(test)]
+mod table_tests;
 mod tabling;
 #[cfg(test)]
 mod tests;

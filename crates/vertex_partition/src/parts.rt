@@ -15,8 +15,8 @@ use crate::cuts::Cuts;
 use crate::tabling::tables_by;
 use alias_table::AliasTable;
 use csr_store::{OutEdge, RowRange};
-use std::alloc::Global;
 use std::marker::Model;
+use std::thread::Threads;
 use walk_model::Memory;
 
 /// A part of a graph: the rows of the vertices that it owns, and the table of each row that isn't empty,
@@ -54,8 +54,8 @@ impl PartRows {
     ghost use Rattle.vertex_partition.specs.PartViews.{PartView};
 
     /// The part of these rows, with their tables.
-    pub(crate) fn of(
-        alloc: Global,
+    pub(crate) fn of<R: Threads + Sync + AllocGlobal>(
+        rt: &R,
         mut rows: RowRange,
         weighted: bool,
         cuts: &Cuts,
@@ -67,8 +67,8 @@ impl PartRows {
         requires end { rows.end ≡ end_of cuts.now.vertices cuts.now.cuts part }
         ensures { IfOk result (λ p. p ≡ record { part = part; cuts = cuts.now.cuts; weighted = weighted; vertices = rows.vertices; edges = rows.edges }) }
     {
-        let cuts = cuts.copy(alloc)?;
-        let tables = tables_by(alloc, &mut rows, weighted)?;
+        let cuts = cuts.copy(rt.alloc())?;
+        let tables = tables_by(rt, &mut rows, weighted)?;
         Ok(PartRows {
             part,
             weighted,

@@ -1,33 +1,20 @@
 //! The tables of a range's rows. Rows of the same number of edges that all weigh 1 share one, so that
-//! uniform steps read few tables, which stay in the caches.
+//! uniform steps read few tables, which stay in the caches. Each other row has a table of its own.
 
-ghost use Rattle.std.specs.Prelude.{◌≡◌, ◌≤◌, ◌<◌, ◌+◌, ◌^◌, ◌↔◌, ℕ, length, map, replicate, slice_index, All, IfOk, IsTrue};
+ghost use Rattle.std.specs.Prelude.{◌≡◌, ◌≤◌, ◌<◌, ◌+◌, ◌^◌, ◌↔◌, ℕ, Bool, List, length, map, replicate, slice_index, All, IfOk, IfSome, IfNone, IsTrue};
 ghost use Rattle.walk_model.specs.Graph.{row, weights_of};
 ghost use Rattle.alias_table.specs.Columns.{IsRow};
 ghost use Rattle.csr_store.specs.RowGraph.{IsIn, HasSameRows};
 ghost use Rattle.csr_store.specs.Shelves.{IsOutEdge};
-ghost use Rattle.vertex_partition.specs.Tabled.{AreTables, AreShared, HasTable, Keeps};
+ghost use Rattle.vertex_partition.specs.Tabled.{AreOwn, AreTables, AreTablesBut, AreShared, HasEdges, HasTable, Keeps};
 ghost use Rattle.vertex_partition.specs.OutWeights.{out_weight};
 
+use crate::own_tables::own_tables;
 use alias_table::AliasTable;
 use csr_store::{OutEdge, RowRange};
 use std::alloc::Global;
+use std::thread::Threads;
 use walk_model::Memory;
-
-/// The static weight of an edge.
-fn weight_of(weighted: bool, edge: &OutEdge) -> u64
-    ensures { result ≡ out_weight weighted edge.now }
-{
-    if weighted { edge.weight } else { 1 }
-}
-
-/// The static weights of a row.
-fn weights_from(alloc: Global, weighted: bool, row: &[OutEdge]) -> Result<Vec<u64>, Memory>
-    ensures { IfOk result (λ ws. ws.items ≡ map (out_weight weighted) row.now) }
-{
-    let weights = row.iter().map(|e| weight_of(weighted, e)).collect(alloc)?;
-    Ok(weights)
-}
 
 /// Whether each edge of a row has the weight 1.
 fn have_ones(row: &[OutEdge]) -> bool
@@ -83,33 +70,33 @@ fn shared_table(
     Ok(number)
 }
 
-/// The number of the table of a row, or 0 where the row is empty.
-fn table_of(
+/// The number of the table that a row shares, which is 0 where the row is empty, or none where its weights aren't all 1.
+fn shared_by(
     alloc: Global,
     made: &mut Vec<AliasTable>,
     shared: &mut [Option<u32>],
     weighted: bool,
     row: &[OutEdge],
-) -> Result<u32, Memory>
+) -> Result<Option<u32>, Memory>
     requires short { length row.now < 2 ^ 31 }
-    requires weights { All (λ w. (1 ≤ w) × (w < 2 ^ 62)) (map (out_weight weighted) row.now) }
     requires within { length row.now < length shared.old }
     requires few { length made.old.items < 2 ^ 32 }
     requires shared { AreShared made.old.items shared.old }
-    ensures number { IfOk result (λ k. 0 < length row.now → HasTable made.new.items k (map (out_weight weighted) row.now)) }
+    ensures number { IfOk result (λ o. IfSome o (λ k. 0 < length row.now → HasTable made.new.items k (map (out_weight weighted) row.now))) }
+    ensures none { IfOk result (λ o. IfNone o ((0 < length row.now) × (made.new.items ≡ made.old.items))) }
     ensures keeps { IfOk result (λ _. Keeps made.old.items made.new.items) }
     ensures few { IfOk result (λ _. length made.new.items ≤ length made.old.items + 1) }
     ensures shared { IfOk result (λ _. AreShared made.new.items shared.new) }
     ensures long { length shared.new ≡ length shared.old }
 {
     if row.is_empty() {
-        return Ok(0);
+        return Ok(Some(0));
     }
     if are_ones(weighted, row) {
-        return shared_table(alloc, made, shared, row.len());
+        let number = shared_table(alloc, made, shared, row.len())?;
+        return Ok(Some(number));
     }
-    let weights = weights_from(alloc, weighted, row)?;
-    add_table(alloc, made, &weights)
+    Ok(None)
 }
 
 /// The greatest number of edges from a vertex of a range.
@@ -124,21 +111,63 @@ fn longest_row(rows: &RowRange) -> usize
     most
 }
 
-/// Makes the tables of all rows of a range, and marks each vertex that has edges with the number of its
-/// table.
-pub(crate) fn tables_by(
-    alloc: Global,
+/// The tables that rows share, and the vertices of the other rows.
+#[derive(Drop)]
+struct Classed {
+    made: Vec<AliasTable>,
+    lone: Vec<u32>,
+}
+
+/// Makes the tables that rows of a range share, marks the vertices of these rows, and lists those of the others.
+fn class_rows(alloc: Global, rows: &mut RowRange, weighted: bool) -> Result<Classed, Memory>
+    ensures tables { IfOk result (λ c. AreTablesBut weighted rows.new c.made.items 0 c.lone.items) }
+    ensures lone { IfOk result (λ c. All (HasEdges rows.new) c.lone.items) }
+    ensures few { IfOk result (λ c. length c.made.items + length c.lone.items < 2 ^ 32) }
+    ensures rows { HasSameRows rows.old rows.new }
+{
+    let mut made = Vec::new(alloc);
+    let mut lone = Vec::new(alloc);
+    let mut shared = vec![in alloc; None; longest_row(rows) + 1]?;
+    for v in rows.first()..rows.end() {
+        let row = rows.row(v);
+        let Some(number) = shared_by(alloc, &mut made, &mut shared, weighted, row)? else {
+            lone.push(v)?;
+            continue;
+        };
+        rows.set_mark(v, number);
+    }
+    Ok(Classed { made, lone })
+}
+
+/// Marks vertices with the numbers of their own tables, which stand one after another from a first one on.
+fn mark_lone(rows: &mut RowRange, first: u32, lone: &[u32])
+    requires vertices { All (HasEdges rows.old) lone.now }
+    requires few { first + length lone.now < 2 ^ 32 }
+    ensures tables { (weighted : Bool) (tables : List (List ℕ)) → AreTablesBut weighted rows.old tables 0 lone.now
+        → AreOwn weighted rows.old tables first lone.now → AreTables weighted rows.new tables }
+    ensures rows { HasSameRows rows.old rows.new }
+{
+    for place in 0..lone.len() {
+        rows.set_mark(lone[place], first + place as u32);
+    }
+}
+
+/// Makes the tables of all rows of a range, and marks each vertex that has edges with the number of its table: first those that are
+/// shared, in one pass, then the others, in several threads where there are many.
+pub(crate) fn tables_by<R: Threads + Sync + AllocGlobal>(
+    rt: &R,
     rows: &mut RowRange,
     weighted: bool,
 ) -> Result<Vec<AliasTable>, Memory>
     ensures tables { IfOk result (λ made. AreTables weighted rows.new made.items) }
     ensures rows { HasSameRows rows.old rows.new }
 {
-    let mut made = Vec::new(alloc);
-    let mut shared = vec![in alloc; None; longest_row(rows) + 1]?;
-    for v in rows.first()..rows.end() {
-        let number = table_of(alloc, &mut made, &mut shared, weighted, rows.row(v))?;
-        rows.set_mark(v, number);
-    }
+    let alloc = rt.alloc();
+    let Classed { mut made, lone } = class_rows(alloc, rows, weighted)?;
+    let lone = lone.as_slice();
+    let first = made.as_slice().len() as u32;
+    let mut own = own_tables(rt, alloc, rows, weighted, lone)?;
+    made.append(&mut own)?;
+    mark_lone(rows, first, lone);
     Ok(made)
 }

@@ -121,7 +121,7 @@ fn overflows_at_the_limit(rt: HostRuntime) -> Result<(), Fail> {
 }
 
 /// Asserts that a table has the static weights of a row.
-fn expect_table<R: Abort>(rt: &R, weights: &[u64], row: &[OutEdge], weighted: bool) {
+pub(crate) fn expect_table<R: Abort>(rt: &R, weights: &[u64], row: &[OutEdge], weighted: bool) {
     assert_eq!(rt; weights.len(), row.len());
     for (weight, edge) in weights.iter().zip(row) {
         assert_eq!(rt; *weight, if weighted { edge.weight } else { 1 });
@@ -164,7 +164,7 @@ fn parts_of_a_star(rt: HostRuntime) -> Result<(), Fail> {
         let rows = Rows::build(rt.alloc(), star(rt.alloc())?, 5)?;
         let cuts = Cuts::balanced(rt.alloc(), &[4, 2, 2, 2, 1], count)?;
         assert_eq!(rt; cuts.vertices(), rows.vertices());
-        let parts = split(rt.alloc(), rows, weighted, &cuts)?;
+        let parts = split(&rt, rows, weighted, &cuts)?;
         assert_eq!(rt; parts.len(), count as usize);
         let mut owned = 0u32;
         for (number, part) in parts.iter().enumerate() {
