@@ -256,12 +256,12 @@ factor-within fs first class other within =
     omega (arith, same, most)
 
 -- the parts of an edge below the height and above it are its whole
-low-part : (h l f n w strip : ℕ) → f ≤ h → l ≡ 0 → min h f * (n * w) + l * (n * strip) ≡ n * w * f
+pub low-part : (h l f n w strip : ℕ) → f ≤ h → l ≡ 0 → min h f * (n * w) + l * (n * strip) ≡ n * w * f
 low-part h l f n w strip under none =
     let least : min h f ≡ f = omega arith in
     rw (none, least) (omega arith)
 
-strip-none : (h l f n w strip : ℕ) → f ≤ h → strip ≡ 0 → min h f * (n * w) + l * (n * strip) ≡ n * w * f
+pub strip-none : (h l f n w strip : ℕ) → f ≤ h → strip ≡ 0 → min h f * (n * w) + l * (n * strip) ≡ n * w * f
 strip-none h l f n w strip under none =
     let least : min h f ≡ f = omega arith in
     rw (none, least) (omega arith)
@@ -280,7 +280,7 @@ both-parts h f nw =
           rw (least, none) (omega arith)
     ]
 
-high-part : (h l f n w strip : ℕ) → l ≡ f - h → strip ≡ w → min h f * (n * w) + l * (n * strip) ≡ n * w * f
+pub high-part : (h l f n w strip : ℕ) → l ≡ f - h → strip ≡ w → min h f * (n * w) + l * (n * strip) ≡ n * w * f
 high-part h l f n w strip is same = rw (is, same) (both-parts h f (n * w))
 
 -- an edge outside the run hasn't the return class

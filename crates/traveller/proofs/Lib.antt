@@ -3,6 +3,7 @@ mod ChoiceLemmas
 mod ChoiceTicks
 mod DartLemmas
 mod DecidedLemmas
+mod FairLemmas
 pub mod FarChoice
 pub mod FarLemmas
 mod FarTicks

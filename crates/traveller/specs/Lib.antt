@@ -5,6 +5,7 @@ pub mod Bounds
 pub mod Choices
 pub mod Decided
 pub mod Deciding
+pub mod FairDarts
 pub mod Far
 pub mod Heres
 pub mod Locals
@@ -18,3 +19,4 @@ pub mod Ticks
 pub mod Told
 pub mod Turns
 pub mod Walkers
+pub mod Places

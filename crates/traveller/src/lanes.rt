@@ -42,11 +42,11 @@ impl Lane {
     ghost use Rattle.traveller.specs.Standing.{CanGo, IsWithin, StandsIn, Suits, journey_on};
     ghost use Rattle.traveller.specs.Walkers.{Walker, is_fresh, is_over, is_ready};
 
-    /// A lane with a traveller of a run at its start.
+    /// A lane with a traveller of a run, wherever it stands. The words that it carries are taken up.
     pub fn of(run: &Run, traveller: Traveller) -> Lane
         ensures { result ≡ traveller }
     {
-        let words = Streams::new(run.seed).reader(traveller.number(), 0);
+        let words = traveller.reader(run);
         Lane {
             traveller,
             words,
@@ -60,30 +60,32 @@ impl Lane {
         ensures { self.new ≡ traveller }
     {
         let _run = run;
-        self.words.seek(traveller.number(), 0);
+        traveller.bring(&mut self.words);
         self.traveller = traveller;
     }
 
     /// Another traveller of a run, wherever it stands, takes the place of the one that was there, which is given
-    /// back.
+    /// back. The words that it carries are taken up, and the one that is given back carries its own.
     pub fn change(&mut self, traveller: Traveller) -> Traveller
         ensures next { self.new ≡ traveller }
         ensures before { result ≡ self.old }
     {
-        self.words.seek(traveller.number(), traveller.next_place());
+        self.traveller.pack(&mut self.words);
+        traveller.bring(&mut self.words);
         mem::replace(&mut self.traveller, traveller)
     }
 
-    /// The traveller of the lane, which is given up.
+    /// The traveller of the lane, which is given up, and carries its next words.
     pub fn into_traveller(self) -> Traveller
         ensures { result ≡ self }
     {
         let Lane {
-            traveller,
-            words: _,
+            mut traveller,
+            mut words,
             column: _,
             read: _,
         } = self;
+        traveller.pack(&mut words);
         traveller
     }
 

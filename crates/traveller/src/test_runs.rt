@@ -9,6 +9,7 @@ use crate::runs::Run;
 use csr_store::Rows;
 use std::alloc::Global;
 use std::test::Fail;
+use std::thread::Threads;
 use vertex_partition::{Cuts, PartRows, first_overflow, split};
 use walk_model::{Edge, Fraction, Kinds, Plan, Rule, StartRule, greatest_factor};
 
@@ -132,14 +133,15 @@ fn make_rows(edges: &[Edge], vertices: u32) -> bool
 }
 
 /// A run by the plan of a case on the parts between cuts, which it suits.
-pub(crate) fn make_ready(
-    alloc: Global,
+pub(crate) fn make_ready<R: Threads + Sync + AllocGlobal>(
+    rt: &R,
     lines: &[Line],
     case: Case,
     cuts: &Cuts,
 ) -> Result<Ready, Fail>
     ensures { IfOk result (λ ready. All (Suits ready.run) ready.parts.items) }
 {
+    let alloc = rt.alloc();
     let vertices = cuts.vertices();
     let plan = plan_of(alloc, case)?;
     let edges = edges_of(alloc, lines)?;
@@ -151,7 +153,7 @@ pub(crate) fn make_ready(
         None => {}
         Some(_) => return Err(Fail::new("a vertex that overflows")),
     }
-    let parts = split(alloc, rows, plan.weighted, cuts)?;
+    let parts = split(rt, rows, plan.weighted, cuts)?;
     let run = Run {
         plan,
         seed: SEED,

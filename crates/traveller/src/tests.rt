@@ -14,6 +14,7 @@ use std::marker::Brand;
 use std::process::Abort;
 use std::sync::ledger::{Blank, Ledger};
 use std::test::Fail;
+use std::thread::Threads;
 use vertex_partition::{Cuts, PartRows};
 use walk_model::{Ask, Ends, Found, Question, Reply, State, Steps, can_walk, plain_walk};
 use walker_stream::Streams;
@@ -315,7 +316,7 @@ fn turns_of(alloc: Global, walk: &[u32]) -> Result<Vec<Turn>, Fail> {
 }
 
 /// Asserts the walk of a walker, led in some ways over the parts between cuts.
-fn expect_walk<R: Abort + AllocGlobal>(
+fn expect_walk<R: Abort + Threads + Sync + AllocGlobal>(
     rt: &R,
     lines: &[Line],
     case: Case,
@@ -325,7 +326,7 @@ fn expect_walk<R: Abort + AllocGlobal>(
     walk: &[u32],
 ) -> Result<(), Fail> {
     let want = turns_of(rt.alloc(), walk)?;
-    let ready = make_ready(rt.alloc(), lines, case, cuts)?;
+    let ready = make_ready(rt, lines, case, cuts)?;
     for lead in leads {
         let turns = turns_by::<Brand>(rt.alloc(), &ready, number, *lead, Blank::new(1))?;
         assert!(rt; turns == want, "walker {number}");
@@ -334,7 +335,7 @@ fn expect_walk<R: Abort + AllocGlobal>(
 }
 
 /// Asserts that all walks of a case, led in some ways, are those of the definition.
-fn expect_plain<R: Abort + AllocGlobal>(
+fn expect_plain<R: Abort + Threads + Sync + AllocGlobal>(
     rt: &R,
     lines: &[Line],
     case: Case,
@@ -574,7 +575,7 @@ fn choices_after_a_vertex_of_another_part(rt: HostRuntime) -> Result<(), Fail> {
         (&apart, Choice::Plain, 5, 0, 1, chosen),
     ] {
         let case = case(10, retries, NEVER, NEVER, choice);
-        let ready = make_ready(rt.alloc(), &PATH, case, cuts)?;
+        let ready = make_ready(&rt, &PATH, case, cuts)?;
         let found = choice_after::<Brand>(&ready, back, at, Blank::new(1))?;
         assert_eq!(rt; found, mode);
     }
@@ -587,7 +588,7 @@ fn runs_and_their_walkers(rt: HostRuntime) -> Result<(), Fail> {
     let cuts = Cuts::none(rt.alloc(), 3);
     for choice in LONE_CHOICES.iter().chain(&NEAR_CHOICES) {
         let case = case(10, 32, NEVER, NEVER, *choice);
-        let ready = make_ready(rt.alloc(), &PATH, case, &cuts)?;
+        let ready = make_ready(&rt, &PATH, case, &cuts)?;
         let run = ready.run.copy(rt.alloc())?;
         assert_eq!(rt; run.seed, SEED);
         assert_eq!(rt; run.plan.length, 10);

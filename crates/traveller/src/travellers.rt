@@ -5,6 +5,7 @@ ghost use Rattle.walk_model.specs.Graph.{row};
 ghost use Rattle.walk_model.specs.Cuts.{owner};
 ghost use Rattle.csr_store.specs.RowGraph.{RowGraph};
 ghost use Rattle.vertex_partition.specs.PartViews.{Owns, IsPartOf};
+ghost use Rattle.walker_stream.specs.Standing.{standing};
 
 use crate::choosing::choose_from;
 use crate::deciding::{Decision, begun};
@@ -16,10 +17,11 @@ use std::marker::{Brand, Model};
 use std::sync::ledger::{Blank, Ledger};
 use vertex_partition::PartRows;
 use walk_model::{Question, Reply, State, Steps};
-use walker_stream::{StreamReader, Streams};
+use walker_stream::{CarriedWords, StreamReader};
 
 /// A walker on its way, seen as its number, its start, how many steps it may take, the state of its walk,
-/// and how far it has come within its step. It holds no list.
+/// and how far it has come within its step. It holds no list. With it go the words that it takes next, which
+/// no contract sees: a reader that takes them up is spared a refill.
 #[derive(Debug, Drop)]
 pub struct Traveller {
     number: u64,
@@ -27,6 +29,17 @@ pub struct Traveller {
     length: u32,
     state: State,
     mode: Mode,
+    // its next words, where it was packed up; they are its stream's, wherever it stands
+    words: CarriedWords,
+}
+
+/// A reader at a place of a walker's stream under a seed, with the words that are carried.
+fn reader_with(words: &CarriedWords, seed: u64, number: u64, place: u64) -> StreamReader
+    ensures { result ≡ standing seed number place }
+{
+    let mut reader = words.reader();
+    reader.follow(seed, number, place);
+    reader
 }
 
 impl Model for Traveller {
@@ -44,11 +57,13 @@ impl Model for Traveller {
 impl Traveller {
     ghost use Rattle.traveller.specs.declared.runs.Run.{Run as TheRun};
     ghost use Rattle.traveller.specs.Deciding.{decided, gone, turn_of};
+    ghost use Rattle.traveller.specs.FairDarts.{HasFairDarts};
+    ghost use Rattle.traveller.specs.Places.{next_place};
     ghost use Rattle.traveller.specs.Replies.{Answers, hear};
     ghost use Rattle.traveller.specs.RuleFactors.{AreFactors};
     ghost use Rattle.traveller.specs.Standing.{CanGo, IsWithin, StandsIn, Suits, journey_on, parted};
     ghost use Rattle.traveller.specs.Ticks.{columns_in, turn_columns};
-    ghost use Rattle.traveller.specs.Turns.{advance};
+    ghost use Rattle.traveller.specs.Turns.{advance, board_at, row_at};
     ghost use Rattle.traveller.specs.Walkers.{Walker, first_walker, is_fresh, is_over, is_ready, question_of};
 
     /// A walker at its start, which may take so many steps, 1,048,576 at most.
@@ -58,7 +73,6 @@ impl Traveller {
         ensures first { result ≡ first_walker number start length }
         ensures within { IsWithin run.now.vertices result }
     {
-        let _run = run;
         Traveller {
             number,
             start,
@@ -71,6 +85,7 @@ impl Traveller {
                 place: 0,
             },
             mode: Mode::Fresh,
+            words: CarriedWords::none(run.seed, number, 0),
         }
     }
 
@@ -101,7 +116,9 @@ impl Traveller {
     }
 
     /// The place of the next word that it takes.
-    pub(crate) fn next_place(&self) -> u64 {
+    pub(crate) fn next_place(&self) -> u64
+        ensures { result ≡ next_place self.now }
+    {
         match self.mode {
             Mode::Fresh => self.state.place,
             Mode::Darts { place, .. } => place,
@@ -110,6 +127,32 @@ impl Traveller {
             Mode::Chosen { place, .. } => place,
             Mode::Over => self.state.place,
         }
+    }
+
+    /// Takes its next words from a reader, to carry them. The reader comes to its next word.
+    pub(crate) fn pack(&mut self, reader: &mut StreamReader)
+        ensures stays { self.new ≡ self.old }
+        ensures stands { reader.new ≡ standing reader.old.seed self.old.number (next_place self.old) }
+    {
+        reader.seek(self.number, self.next_place());
+        self.words = reader.pack();
+    }
+
+    /// Brings a reader to its next word, with the words that it carries.
+    pub(crate) fn bring(&self, reader: &mut StreamReader)
+        ensures walker { reader.new.walker ≡ self.now.number }
+        ensures place { reader.new.place ≡ next_place self.now }
+    {
+        let next = self.next_place();
+        reader.take_up(&self.words);
+        reader.seek(self.number, next);
+    }
+
+    /// A reader of a run's words at its next word, with the words that it carries.
+    pub(crate) fn reader(&self, run: &Run) -> StreamReader
+        ensures { result ≡ standing run.now.seed self.now.number (next_place self.now) }
+    {
+        reader_with(&self.words, run.seed, self.number, self.next_place())
     }
 
     /// The question whose reply it waits for, exactly while it waits.
@@ -248,18 +291,24 @@ impl Traveller {
     }
 
     /// Goes on until a step is made, a question must be asked of another part, or the walk ends. It ticks
-    /// once for each dart whose edge comes from a column: neither a miss nor one in the strip.
+    /// once for each dart whose edge comes from a column: neither a miss nor one in the strip. Of all words a
+    /// dart of its step takes each edge by exactly its share: its weight times its factor.
     pub fn advance<L: Ledger>(&mut self, run: &Run, part: &PartRows, steps: &mut Steps<L>) -> Turn
         requires stands { StandsIn run.now part.now self.old }
         requires ready { IsTrue (is_ready self.old.mode) }
         ensures data { (g : RowGraph) → IsPartOf g part.now → self.new ≡ advance (parted g run.now part.now.cuts) self.old }
         ensures ticks { (g : RowGraph) → IsPartOf g part.now → steps.new ≡ steps.old + columns_in (parted g run.now part.now.cuts) self.old }
+        ensures fair { (g : RowGraph) → IsPartOf g part.now
+            → 0 < length (row_at (journey_on g run.now part.now.cuts self.old) self.old.state)
+            → HasFairDarts (board_at (journey_on g run.now part.now.cuts self.old) self.old.state) }
         ensures turn { result ≡ turn_of self.new.mode self.new.state.at }
         ensures within { IsWithin part.now.vertices self.new }
         ensures stands { owner part.now.cuts self.new.state.at ≡ part.now.part → StandsIn run.now part.now self.new }
     {
+        // its edges weigh something
+        let _row = part.row(self.at());
         let factors = rule_factors(&run.plan.rule);
-        let mut reader = Streams::new(run.seed).reader(self.number, self.state.place);
+        let mut reader = self.reader(run);
         self.decide(run, &factors, part, &mut reader, steps);
         self.go(run, part);
         self.turn()
@@ -284,7 +333,7 @@ impl Traveller {
             } => {
                 let factors = near_factors(&run.plan.rule);
                 let near = told_near(reply.ask.question, &reply.found);
-                let mut reader = Streams::new(run.seed).reader(self.number, place);
+                let mut reader = reader_with(&self.words, run.seed, self.number, place);
                 self.mode = hear_edge::<Brand>(
                     part,
                     &run.plan,
@@ -300,7 +349,7 @@ impl Traveller {
             Mode::AskedRow { place, question } => {
                 let factors = near_factors(&run.plan.rule);
                 let ends = told_ends(reply.ask.question, &reply.found);
-                let mut words = Streams::new(run.seed).reader(self.number, place);
+                let mut words = reader_with(&self.words, run.seed, self.number, place);
                 self.mode = hear_row(
                     part,
                     &run.plan,

@@ -30,7 +30,7 @@ returns-in-Asked-clause-data c = λ graph of.
     let asks : IsAsker graph c.args.run.now.plan w.state c.asked.result on.a = subst (λ t. IsAsker graph c.args.run.now.plan w.state t on.a) (sym back) on.is in
     let own : c.args.reply.now.ask.question ≡ c.in-Asked.question =
     sym (same_Some c.in-Asked.question c.args.reply.now.ask.question (sym (ap question_of c.in-Asked.is) ∙ ap (λ (v : Walker). question_of v.mode) c.self.view_is ∙ c.requires.waits)) in
-    let reader : c.reader-reader.result ≡ standing c.args.run.now.seed w.number c.in-Asked.place = c.reader-reader.ensures ∙ ap (λ k. standing k w.number c.in-Asked.place) (c.new.ensures ∙ ap (λ (r : Run). r.seed) c.run.view_is) in
+    let reader : c.reader_with-reader.result ≡ standing c.args.run.now.seed w.number c.in-Asked.place = c.reader_with-reader.ensures ∙ ap (λ k. standing k w.number c.in-Asked.place) (ap (λ (r : Run). r.seed) c.run.view_is) in
     let comes = c.hear_edge-self-inside.ensures.mode graph on.a of asks
     ∙ ap (λ (r : Standing). edge_mode (hit (told_board on.a (board_of graph.edges c.args.run.now.plan w.state (row graph.edges w.state.at)) (λ x. c.told_near-near.result)) (word r.seed r.walker r.place)) c.in-Asked.left r.place) reader in
     subst (λ (v : Walker). record w { mode = c.hear_edge-self-inside.result } ≡ hear (parted graph c.args.run.now c.args.part.now.cuts) v c.args.reply.now.found) c.self.view_is
@@ -49,7 +49,7 @@ returns-in-AskedRow-clause-data c = λ graph of.
     let asks : IsAsker graph c.args.run.now.plan w.state c.asked-in-AskedRow.result on.a = subst (λ t. IsAsker graph c.args.run.now.plan w.state t on.a) (sym back) on.is in
     let own : c.args.reply.now.ask.question ≡ c.in-AskedRow.question =
     sym (same_Some c.in-AskedRow.question c.args.reply.now.ask.question (sym (ap question_of c.in-AskedRow.is) ∙ ap (λ (v : Walker). question_of v.mode) c.self.view_is ∙ c.requires.waits)) in
-    let reader : c.reader-words.result ≡ standing c.args.run.now.seed w.number c.in-AskedRow.place = c.reader-words.ensures ∙ ap (λ k. standing k w.number c.in-AskedRow.place) (c.new-in-AskedRow.ensures ∙ ap (λ (r : Run). r.seed) c.run.view_is) in
+    let reader : c.reader_with-words.result ≡ standing c.args.run.now.seed w.number c.in-AskedRow.place = c.reader_with-words.ensures ∙ ap (λ k. standing k w.number c.in-AskedRow.place) (ap (λ (r : Run). r.seed) c.run.view_is) in
     let comes = c.hear_row-self-inside.ensures.mode graph on.a of asks
     ∙ ap (λ (r : Standing). chosen_or_over (scanned (told_board on.a (board_of graph.edges c.args.run.now.plan w.state (row graph.edges w.state.at)) (is_among c.told_ends-ends.result.now)) (word r.seed r.walker) r.place)) reader in
     subst (λ (v : Walker). record w { mode = c.hear_row-self-inside.result } ≡ hear (parted graph c.args.run.now c.args.part.now.cuts) v c.args.reply.now.found) c.self.view_is
