@@ -67,7 +67,7 @@ pub(crate) fn take_in(
     ensures offers { IfOk result (λ a. a.offers.items ≡ map offer_of aside.items ++ filter_map offer_in (map item_of arrivals.items)) }
 {
     let mut arrived = Arrived {
-        walkers: Vec::new(alloc),
+        walkers: Vec::with_capacity(alloc, arrivals.len())?,
         asks: Vec::new(alloc),
         offers: offered(alloc, aside)?,
     };

@@ -35,6 +35,19 @@ pub(crate) struct Crowd {
     pub(crate) aside: Vec<Told>,
 }
 
+/// Some walkers and then others. Where there are none before them, the others aren't moved.
+fn behind(first: Vec<Traveller>, second: Vec<Traveller>) -> Result<Vec<Traveller>, Memory>
+    ensures { IfOk result (λ all. all.items ≡ first.items ++ second.items) }
+{
+    if first.is_empty() {
+        return Ok(second);
+    }
+    let mut all = first;
+    let mut second = second;
+    all.append(&mut second)?;
+    Ok(all)
+}
+
 /// Walkers one after another.
 fn joined(
     first: Vec<Traveller>,
@@ -43,12 +56,8 @@ fn joined(
 ) -> Result<Vec<Traveller>, Memory>
     ensures { IfOk result (λ all. all.items ≡ (first.items ++ second.items) ++ third.items) }
 {
-    let mut all = first;
-    let mut second = second;
-    let mut third = third;
-    all.append(&mut second)?;
-    all.append(&mut third)?;
-    Ok(all)
+    let all = behind(first, second)?;
+    behind(all, third)
 }
 
 /// What a round makes of a shard's walkers, and what it gives out.

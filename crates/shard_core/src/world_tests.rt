@@ -8,6 +8,7 @@ use crate::worlds::World;
 use csr_store::Rows;
 use std::alloc::Global;
 use std::test::Fail;
+use std::thread::Threads;
 use traveller::Run;
 use vertex_partition::{Cuts, first_overflow, split};
 use walk_model::{Edge, Fraction, Memory, Plan, Print, Rule, StartRule, greatest_factor};
@@ -56,11 +57,12 @@ fn plan_of(length: u32) -> Plan
 }
 
 /// The world of the cycle in so many parts, before any step of its walks.
-fn begun(alloc: Global, parts: u32, length: u32) -> Result<World, Fail>
+fn begun<R: Threads + Sync + AllocGlobal>(rt: &R, parts: u32, length: u32) -> Result<World, Fail>
     requires some { 1 ≤ parts }
     requires few { parts ≤ most_parts }
     requires length { length ≤ 1048576 }
 {
+    let alloc = rt.alloc();
     let plan = plan_of(length);
     let rows = Rows::build(alloc, cycle(alloc)?, 3)?;
     match first_overflow(&rows, plan.weighted, greatest_factor(&plan.rule)) {
@@ -68,7 +70,7 @@ fn begun(alloc: Global, parts: u32, length: u32) -> Result<World, Fail>
         Some(_) => return Err(Fail::new("a vertex that overflows")),
     }
     let cuts = Cuts::balanced(alloc, &[2, 2, 2], parts)?;
-    let parts = split(alloc, rows, plan.weighted, &cuts)?;
+    let parts = split(rt, rows, plan.weighted, &cuts)?;
     let run = Run {
         plan,
         seed: 7,
@@ -81,7 +83,7 @@ fn begun(alloc: Global, parts: u32, length: u32) -> Result<World, Fail>
 #[test]
 fn walkers_begin_at_their_owners(rt: HostRuntime) -> Result<(), Fail> {
     for (parts, owned) in [(1, [0, 1, 2].as_slice()), (3, [0].as_slice())] {
-        let world = begun(rt.alloc(), parts, 3)?;
+        let world = begun(&rt, parts, 3)?;
         assert_eq!(rt; world.shards.len(), parts as usize);
         assert!(rt; world.flight.is_empty());
         for (k, shard) in world.shards.iter().enumerate() {
@@ -107,7 +109,7 @@ fn walkers_begin_at_their_owners(rt: HostRuntime) -> Result<(), Fail> {
 #[test]
 fn prints_of_starts_are_walks_of_no_step(rt: HostRuntime) -> Result<(), Fail> {
     for parts in [1, 2, 3, 8] {
-        let world = begun(rt.alloc(), parts, 0)?;
+        let world = begun(&rt, parts, 0)?;
         let walks = world.finish(rt.alloc())?;
         assert_eq!(rt; walks.count(), 3);
         for i in 0..walks.count() {

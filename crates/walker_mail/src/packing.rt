@@ -18,13 +18,22 @@ struct Packing<I> {
     last: Vec<Parcel<I>>,
 }
 
-/// A parcel with its first item.
-fn begun<I: Drop>(alloc: Global, from: u32, to: u32, item: I) -> Result<Parcel<I>, Memory>
+/// The most items for which a parcel has room from the beginning where the one before it is full.
+const ROOM: usize = 256;
+
+/// A parcel with its first item, and room for so many.
+fn begun<I: Drop>(
+    alloc: Global,
+    from: u32,
+    to: u32,
+    item: I,
+    room: usize,
+) -> Result<Parcel<I>, Memory>
     ensures from { IfOk result (λ p. p.from ≡ from) }
     ensures to { IfOk result (λ p. p.to ≡ to) }
     ensures items { IfOk result (λ p. p.items.items ≡ item ∷ []) }
 {
-    let mut items = Vec::new(alloc);
+    let mut items = Vec::with_capacity(alloc, room)?;
     items.push(item)?;
     Ok(Parcel { from, to, items })
 }
@@ -44,7 +53,7 @@ impl<I: Drop> Packing<I> {
         let Addressed { to, item } = addressed;
         let place = self.last.partition_point(|p| p.to < to);
         if place == self.last.len() || self.last[place].to != to {
-            let parcel = begun(alloc, from, to, item)?;
+            let parcel = begun(alloc, from, to, item, 1)?;
             self.last.insert(place, parcel)?;
             return Ok(());
         }
@@ -52,7 +61,8 @@ impl<I: Drop> Packing<I> {
             self.last[place].items.push(item)?;
             return Ok(());
         }
-        let parcel = begun(alloc, from, to, item)?;
+        let room = ROOM.min(limit as usize);
+        let parcel = begun(alloc, from, to, item, room)?;
         let filled = mem::replace(&mut self.last[place], parcel);
         self.full.push(filled)?;
         Ok(())
