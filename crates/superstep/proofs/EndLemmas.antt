@@ -31,8 +31,9 @@ use Rattle.shard_core.specs.Items.{item_of as item_seen}
 use Rattle.shard_core.specs.Shards.{ShardView, shard_of}
 use Rattle.shard_core.specs.SoundWorlds.{AreShardsOf, IsInFlight, IsSoundWorld, IsSomeWorld, HasBegun, HasFinished, flight_of, world_data}
 use Rattle.shard_core.specs.Taking.{FitsAmong}
-use Rattle.superstep.specs.Carried.{of_one, count_letters, of_aside, to_post, IsLogged}
+use Rattle.superstep.specs.Carried.{of_one, count_letters, IsLogged}
 use Rattle.superstep.specs.Moments.{Moment, moment, pieces_of, Stands, not_posted, all_ahead, LeadsTo, IsGoing, IsSettled, most_letters}
+use Rattle.superstep.specs.ToPost.{of_aside, to_post}
 use Rattle.superstep.proofs.SumLemmas.{sum_by-map, sum_by-nothing, sum_by-alike, sum_below-alike, length-of_one}
 use Rattle.superstep.proofs.ItemLemmas.{ahead-within}
 use Rattle.superstep.proofs.RoundLemmas.{come-none}

@@ -8,5 +8,7 @@ pub mod StandLemmas
 pub mod GoingLemmas
 pub mod EndLemmas
 pub mod BoxLemmas
-pub mod MadeLemmas
+pub mod DeliverLemmas
+pub mod ShareLemmas
+pub mod TurnLemmas
 pub mod StepLemmas

@@ -25,7 +25,7 @@ use Rattle.shard_core.specs.Items.{item_of as item_seen}
 use Rattle.shard_core.specs.Shards.{ShardView, shard_of}
 use Rattle.shard_core.specs.SoundWorlds.{flight_of}
 use Rattle.superstep.specs.Rounding.{MadeRound, arrived}
-use Rattle.superstep.specs.Boxes.{boxed}
+use Rattle.superstep.specs.Boxes.{joined}
 use Rattle.superstep.specs.Moments.{not_posted}
 use Rattle.superstep.proofs.SumLemmas.{sum_by-map, sum_by-nothing}
 use Rattle.superstep.proofs.ItemLemmas.{ahead-within}
@@ -36,7 +36,7 @@ pub record Belongs (g : RowGraph) (p : PartedRun) (number : ℕ) (r : MadeRound)
   pub part : r.before.part.part ≡ number
   pub of : IsPartOf g r.before.part
   pub runs : parted g r.before.run r.before.part.cuts ≡ p
-  pub goes : GoTo number (arrived r.arrivals.items)
+  pub goes : GoTo number (arrived r.arrivals)
 
 -- rounds at the shards from a number on
 abbrev pub BelongFrom : RowGraph → PartedRun → ℕ → List MadeRound → Type 0
@@ -47,10 +47,10 @@ BelongFrom g p n (r ∷ rs) = Belongs g p n r × BelongFrom g p (suc n) rs
 abbrev rounded_of : (g : RowGraph) (p : PartedRun) (n : ℕ) (r : MadeRound) → Belongs g p n r → Rounded p
 rounded_of g p n r b = record {
   before = shard_of r.before;
-  arrivals = arrived r.arrivals.items;
+  arrivals = arrived r.arrivals;
   after = shard_of r.after;
-  out = flight_of r.out.items;
-  round = subst (λ q. IsRound q (shard_of r.before) (arrived r.arrivals.items) (shard_of r.after) (flight_of r.out.items)) b.runs (r.round g b.of);
+  out = flight_of r.out;
+  round = subst (λ q. IsRound q (shard_of r.before) (arrived r.arrivals) (shard_of r.after) (flight_of r.out)) b.runs (r.round g b.of);
 }
 
 abbrev pub rounded : (g : RowGraph) (p : PartedRun) (n : ℕ) (rs : List MadeRound) → BelongFrom g p n rs → List (Rounded p)
@@ -60,11 +60,11 @@ rounded g p n (r ∷ rs) b = rounded_of g p n r b.0 ∷ rounded g p (suc n) rs b
 -- all that arrives, and all that is given out
 abbrev pub all_arrived : List MadeRound → List Sent
 all_arrived [] = []
-all_arrived (r ∷ rs) = arrived r.arrivals.items ++ all_arrived rs
+all_arrived (r ∷ rs) = arrived r.arrivals ++ all_arrived rs
 
 abbrev pub all_given : List MadeRound → List Sent
 all_given [] = []
-all_given (r ∷ rs) = flight_of r.out.items ++ all_given rs
+all_given (r ∷ rs) = flight_of r.out ++ all_given rs
 
 -- the pieces of the rounds are those of the shards and of what arrives, and then of what is given out
 pub weigh-before : (g : RowGraph) (p : PartedRun) (n : ℕ) (rs : List MadeRound) (b : BelongFrom g p n rs) (h : Piece → ℕ)
@@ -73,7 +73,7 @@ pub weigh-before : (g : RowGraph) (p : PartedRun) (n : ℕ) (rs : List MadeRound
 weigh-before g p n [] b h = refl
 weigh-before g p n (r ∷ rs) b h =
     let mine = shard_pieces (shard_of r.before) in
-    let come = arrived r.arrivals.items in
+    let come = arrived r.arrivals in
     omega (
       arith,
       weigh-before g p (suc n) rs b.1 h,
@@ -90,7 +90,7 @@ pub weigh-after : (g : RowGraph) (p : PartedRun) (n : ℕ) (rs : List MadeRound)
 weigh-after g p n [] b h = refl
 weigh-after g p n (r ∷ rs) b h =
     let mine = shard_pieces (shard_of r.after) in
-    let out = flight_of r.out.items in
+    let out = flight_of r.out in
     omega (
       arith,
       weigh-after g p (suc n) rs b.1 h,
@@ -133,8 +133,8 @@ elsewhere-rounds : (g : RowGraph) (p : PartedRun) (k n : ℕ) (rs : List MadeRou
     → ResideElsewhere k (rounds_before (rounded g p n rs b))
 elsewhere-rounds g p k n [] b low = tt
 elsewhere-rounds g p k n (r ∷ rs) b low =
-    elsewhere-append k (shard_pieces (shard_of r.before) ++ map Comes (arrived r.arrivals.items)) _
-    (elsewhere-shard k (shard_of r.before) (arrived r.arrivals.items) (λ e. (let part = b.0.part in omega arith)))
+    elsewhere-append k (shard_pieces (shard_of r.before) ++ map Comes (arrived r.arrivals)) _
+    (elsewhere-shard k (shard_of r.before) (arrived r.arrivals) (λ e. (let part = b.0.part in omega arith)))
     (elsewhere-rounds g p k (suc n) rs b.1 (omega arith))
 
 -- nothing is set aside after rounds in a sound world
@@ -143,7 +143,7 @@ aside-nil : (g : RowGraph) (p : PartedRun) (n : ℕ) (rs : List MadeRound) (b : 
     → All (λ s. s.aside ≡ []) (map (λ r. r.after) rs)
 aside-nil g p n [] b front h away = All-nil _
 aside-nil g p n (r ∷ rs) b front h away =
-    let here = shard_pieces (shard_of r.before) ++ map Comes (arrived r.arrivals.items) in
+    let here = shard_pieces (shard_of r.before) ++ map Comes (arrived r.arrivals) in
     let later = rounds_before (rounded g p (suc n) rs b.1) in
     let mine : Same ((here ++ later) ++ front) (here ++ (later ++ front)) = λ w.
     omega (arith, sum_by-append w (here ++ later) front, sum_by-append w here later, sum_by-append w here (later ++ front), sum_by-append w later front) in
@@ -153,25 +153,25 @@ aside-nil g p n (r ∷ rs) b front h away =
     let others : ResideElsewhere r.before.part.part (later ++ front) =
     subst (λ k. ResideElsewhere k (later ++ front)) (sym part)
     (elsewhere-append n later front (elsewhere-rounds g p n (suc n) rs b.1 (omega arith)) (away n (omega arith))) in
-    let none = aside-empty p (shard_of r.before) (shard_of r.after) (arrived r.arrivals.items) (flight_of r.out.items) (later ++ front)
-    (sound-same p _ _ mine h) (subst (λ k. GoTo k (arrived r.arrivals.items)) (sym part) b.0.goes) others (rounded_of g p n r b.0).round in
+    let none = aside-empty p (shard_of r.before) (shard_of r.after) (arrived r.arrivals) (flight_of r.out) (later ++ front)
+    (sound-same p _ _ mine h) (subst (λ k. GoTo k (arrived r.arrivals)) (sym part) b.0.goes) others (rounded_of g p n r b.0).round in
     All-cons (λ (s : ShardView). s.aside ≡ []) r.after (map (λ (x : MadeRound). x.after) rs) none
     (aside-nil g p (suc n) rs b.1 (here ++ front) (sound-same p _ _ rest h)
     (λ k past. elsewhere-append k here front
-    (elsewhere-shard k (shard_of r.before) (arrived r.arrivals.items) (λ e. omega arith)) (away k (omega arith))))
+    (elsewhere-shard k (shard_of r.before) (arrived r.arrivals) (λ e. omega arith)) (away k (omega arith))))
 
--- all that arrives is what is in the boxes, and all that is given out is in theirs
-pub arrived-boxed : (rs : List MadeRound) → all_arrived rs ≡ arrived (boxed (map (λ r. r.arrivals) rs))
-arrived-boxed [] = refl
-arrived-boxed (r ∷ rs) =
-    ap (λ l. arrived r.arrivals.items ++ l) (arrived-boxed rs)
-    ∙ sym (map-append item_seen r.arrivals.items (boxed (map (λ (x : MadeRound). x.arrivals) rs)))
+-- all that arrives is what is in the lists, and all that is given out is in theirs
+pub arrived-joined : (rs : List MadeRound) → all_arrived rs ≡ arrived (joined (map (λ r. r.arrivals) rs))
+arrived-joined [] = refl
+arrived-joined (r ∷ rs) =
+    ap (λ l. arrived r.arrivals ++ l) (arrived-joined rs)
+    ∙ sym (map-append item_seen r.arrivals (joined (map (λ (x : MadeRound). x.arrivals) rs)))
 
-pub given-boxed : (rs : List MadeRound) → all_given rs ≡ flight_of (boxed (map (λ r. r.out) rs))
-given-boxed [] = refl
-given-boxed (r ∷ rs) =
-    ap (λ l. flight_of r.out.items ++ l) (given-boxed rs)
-    ∙ sym (map-append (λ (a : Addressed Item). item_seen a.item) r.out.items (boxed (map (λ (x : MadeRound). x.out) rs)))
+pub given-joined : (rs : List MadeRound) → all_given rs ≡ flight_of (joined (map (λ r. r.out) rs))
+given-joined [] = refl
+given-joined (r ∷ rs) =
+    ap (λ l. flight_of r.out ++ l) (given-joined rs)
+    ∙ sym (map-append (λ (a : Addressed Item). item_seen a.item) r.out (joined (map (λ (x : MadeRound). x.out) rs)))
 
 -- where nothing is set aside no item has come
 come-residents : (i k : ℕ) (vs : List Walker) → sum_by (of_come i) (map (Resident k) vs) ≡ 0

@@ -1,7 +1,6 @@
 -- Shards stay those of a graph, a run and cuts, and take in what goes to them.
 use Rattle.std.proofs.Common.{◌≡◌, ℕ, zero, suc, ◌+◌, ◌<◌, List, [], ◌∷◌, ◌++◌, map, length, get_or, refl, sym, arith, subst}
-use Rattle.std.specs.Prelude.{All, Option, Vec}
-use Rattle.std.specs.declared.alloc.Global.{Global}
+use Rattle.std.specs.Prelude.{All, Option}
 use Rattle.std.proofs.lemmas.List.{length-map, get_or-map}
 use Rattle.std.proofs.lemmas.List.Elements.{All-cons, All-head, All-tail, All-nil, All-append, All-map}
 use Rattle.walk_model.specs.declared.messages.Letter.{Letter}
@@ -22,7 +21,7 @@ use Rattle.shard_core.specs.Items.{item_of}
 use Rattle.shard_core.specs.Shards.{ShardView}
 use Rattle.shard_core.specs.SoundWorlds.{ArePartsOf, AreShardsOf, IsSameRun, flight_of}
 use Rattle.shard_core.specs.Taking.{FitsAmong}
-use Rattle.superstep.specs.Boxes.{boxed, GoesTo}
+use Rattle.superstep.specs.Boxes.{joined, GoesTo}
 use Rattle.superstep.specs.Moments.{moment, Stands, IsSettled, LeadsTo}
 use Rattle.superstep.specs.Rounding.{MadeRound, arrived}
 use Rattle.superstep.proofs.SumLemmas.{items-below, sum_below-fewer}
@@ -43,12 +42,12 @@ same-parted g a b c d same cuts = λ n. record {
 pub all-unmap : {X Y : Type 0} (P : Y → Type 0) (f : X → Y) (xs : List X) → All P (map f xs) → All (λ x. P (f x)) xs
 all-unmap P f xs h k d low = subst P (get_or-map f xs k d (f d) low) (h k (f d) (omega (arith, length-map xs f)))
 
--- what holds of all that is in boxes holds of what is in each
-pub each-box : {X : Type 0} (P : X → Type 0) (boxes : List (Vec X Global)) → All P (boxed boxes) → (k : ℕ) (d : Vec X Global) → k < length boxes
-    → All P (get_or boxes k d).items
-each-box P [] all k d low = absurd (omega arith)
-each-box P (b ∷ bs) all zero d low = All-front P b.items (boxed bs) all
-each-box P (b ∷ bs) all (suc k) d low = each-box P bs (All-back P b.items (boxed bs) all) k d (omega arith)
+-- what holds of all that is in lists holds of what is in each
+pub each-list : {X : Type 0} (P : X → Type 0) (lists : List (List X)) → All P (joined lists) → (k : ℕ) (d : List X) → k < length lists
+    → All P (get_or lists k d)
+each-list P [] all k d low = absurd (omega arith)
+each-list P (l ∷ ls) all zero d low = All-front P l (joined ls) all
+each-list P (l ∷ ls) all (suc k) d low = each-list P ls (All-back P l (joined ls) all) k d (omega arith)
 
 all-go : (k : ℕ) (items : List Item) → All (GoesTo k) items → GoTo k (arrived items)
 all-go k [] h = tt
@@ -58,7 +57,7 @@ all-go k (i ∷ is) h = (All-head (GoesTo k) i is h, all-go k is (All-tail (Goes
 belong-from : (g : RowGraph) (run : Run) (cuts : List ℕ) (n : ℕ) (rs : List MadeRound)
     → ((k : ℕ) (d : PartView) → k < length rs → IsPart g run.plan.weighted cuts (n + k) (get_or (map (λ (s : ShardView). s.part) (map (λ (r : MadeRound). r.before) rs)) k d))
     → All (λ s. IsSameRun s.run run) (map (λ r. r.before) rs)
-    → ((k : ℕ) (d : Vec Item Global) → k < length rs → All (GoesTo (n + k)) (get_or (map (λ (r : MadeRound). r.arrivals) rs) k d).items)
+    → ((k : ℕ) (d : List Item) → k < length rs → All (GoesTo (n + k)) (get_or (map (λ (r : MadeRound). r.arrivals) rs) k d))
     → BelongFrom g (parted g run cuts) n rs
 belong-from g run cuts n [] parts runs goes = tt
 belong-from g run cuts n (r ∷ rs) parts runs goes =
@@ -69,7 +68,7 @@ belong-from g run cuts n (r ∷ rs) parts runs goes =
         part = part.part;
         of = part.of_graph;
         runs = same-parted g r.before.run run r.before.part.cuts cuts (All-head Same r.before (map (λ (x : MadeRound). x.before) rs) runs) part.cuts_are;
-        goes = all-go n r.arrivals.items (subst (λ k. All (GoesTo k) r.arrivals.items) here (goes 0 r.arrivals (omega arith)));
+        goes = all-go n r.arrivals (subst (λ k. All (GoesTo k) r.arrivals) here (goes 0 r.arrivals (omega arith)));
       },
       belong-from g run cuts (suc n) rs
           (λ k d low.
@@ -79,7 +78,7 @@ belong-from g run cuts n (r ∷ rs) parts runs goes =
           (All-tail Same r.before (map (λ (x : MadeRound). x.before) rs) runs)
           (λ k d low.
           let next : n + suc k ≡ suc n + k = omega arith in
-          subst (λ j. All (GoesTo j) (get_or (map (λ (x : MadeRound). x.arrivals) rs) k d).items) next (goes (suc k) d (omega (arith, low)))),
+          subst (λ j. All (GoesTo j) (get_or (map (λ (x : MadeRound). x.arrivals) rs) k d)) next (goes (suc k) d (omega (arith, low)))),
     )
 
 -- rounds keep the parts and the runs
@@ -112,11 +111,11 @@ given-fits g run cuts n (r ∷ rs) runs parts =
     let Same : ShardView → Type 0 = λ s. IsSameRun s.run run in
     let same = All-head Same r.before (map (λ (x : MadeRound). x.before) rs) runs in
     let part = parts 0 r.before.part (omega arith) in
-    let mine : All (λ (a : Addressed Item). Fits (item_of a.item)) r.out.items =
-    λ k d low. subst (λ c. FitsAmong run.vertices c (item_of (get_or r.out.items k d).item)) part.cuts_are
-    (subst (λ v. FitsAmong v r.before.part.cuts (item_of (get_or r.out.items k d).item)) same.vertices (r.fits k d low).fits) in
-    All-append Fits (flight_of r.out.items) (all_given rs)
-    (All-map Fits (λ (a : Addressed Item). item_of a.item) r.out.items mine)
+    let mine : All (λ (a : Addressed Item). Fits (item_of a.item)) r.out =
+    λ k d low. subst (λ c. FitsAmong run.vertices c (item_of (get_or r.out k d).item)) part.cuts_are
+    (subst (λ v. FitsAmong v r.before.part.cuts (item_of (get_or r.out k d).item)) same.vertices (r.fits k d low).fits) in
+    All-append Fits (flight_of r.out) (all_given rs)
+    (All-map Fits (λ (a : Addressed Item). item_of a.item) r.out mine)
     (given-fits g run cuts (suc n) rs (All-tail Same r.before (map (λ (x : MadeRound). x.before) rs) runs)
     (λ k d low.
     let next : n + suc k ≡ suc n + k = omega arith in
@@ -137,7 +136,7 @@ settled-from g p n (r ∷ rs) b aside =
 -- rounds of all shards lead to a later moment, at which all that arrived was taken in
 pub rounds-lead : (g : RowGraph) (run : Run) (cuts : List ℕ) (rs : List MadeRound) (held : List Sent)
     (carried carried_then : ℕ) (log log_then : Option (List Letter))
-    → ((k : ℕ) (d : Vec Item Global) → k < length rs → All (GoesTo k) (get_or (map (λ (r : MadeRound). r.arrivals) rs) k d).items)
+    → ((k : ℕ) (d : List Item) → k < length rs → All (GoesTo k) (get_or (map (λ (r : MadeRound). r.arrivals) rs) k d))
     → Stands g run cuts (moment (map (λ r. r.before) rs) [] (all_arrived rs ++ held) carried log)
     → (All IsSettled (map (λ r. r.after) rs))
     × LeadsTo g run cuts (length (all_arrived rs)) [] (moment (map (λ r. r.before) rs) [] (all_arrived rs ++ held) carried log)
@@ -151,10 +150,10 @@ rounds-lead g run cuts rs held carried carried_then log log_then goes stands =
     let none : k ≡ 0 + k = omega arith in
     subst (λ j. IsPart g run.plan.weighted cuts j (get_or (map (λ (s : ShardView). s.part) olds) k d)) none
     (stands.shards.parts.each k d (omega (arith, low, length-map olds (λ (s : ShardView). s.part), length-map rs (λ (r : MadeRound). r.before)))) in
-    let there : (k : ℕ) (d : Vec Item Global) → k < length rs → All (GoesTo (0 + k)) (get_or (map (λ (r : MadeRound). r.arrivals) rs) k d).items =
+    let there : (k : ℕ) (d : List Item) → k < length rs → All (GoesTo (0 + k)) (get_or (map (λ (r : MadeRound). r.arrivals) rs) k d) =
     λ k d low.
     let none : k ≡ 0 + k = omega arith in
-    subst (λ j. All (GoesTo j) (get_or (map (λ (r : MadeRound). r.arrivals) rs) k d).items) none (goes k d low) in
+    subst (λ j. All (GoesTo j) (get_or (map (λ (r : MadeRound). r.arrivals) rs) k d)) none (goes k d low) in
     let b = belong-from g run cuts 0 rs parts stands.shards.runs there in
     let turned = turned-rounds g p rs b held stands.sound in
     let t = turned.1 in

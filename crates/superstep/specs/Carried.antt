@@ -1,10 +1,7 @@
 -- What was carried between parts.
-use Rattle.std.specs.Prelude.{◌≡◌, ℕ, ◌<◌, ◌==◌, List, ◌++◌, length, drop, filter, sum_by, All, Option, Some, None}
+use Rattle.std.specs.Prelude.{◌≡◌, ℕ, ◌<◌, ◌==◌, List, ◌++◌, length, filter, All, Option, Some, None}
 use Rattle.walk_model.specs.declared.messages.Letter.{Letter}
 use Rattle.walk_model.specs.Counts.{sum_below}
-use Rattle.traveller.specs.PartedRuns.{PartedRun}
-use Rattle.world_law.specs.LettersAhead.{ahead, item_of}
-use Rattle.world_law.specs.Worlds.{Piece, Aside}
 
 -- the letters of one walker among some
 abbrev pub of_one : ℕ → List Letter → List Letter
@@ -26,13 +23,3 @@ IsLogged walkers wanted (Some before) (Some after) = GrewBy walkers wanted befor
 -- how many letters so many walkers have together
 abbrev pub count_letters : ℕ → (ℕ → List Letter) → ℕ
 count_letters walkers wanted = sum_below walkers (λ i. length (wanted i))
-
--- 1 for an item of walker i that was set aside
-abbrev pub of_aside : ℕ → Piece → ℕ
-of_aside i (Aside k m) = item_of i m
-of_aside i _ = 0
-
--- the letters of walker i that have not yet been posted where what is in flight hasn't been either: those that have
--- not been taken in, without the one that was set aside, if one was
-abbrev pub to_post : PartedRun → List Piece → ℕ → List Letter
-to_post g ps i = drop (sum_by (of_aside i) ps) (ahead g ps i)

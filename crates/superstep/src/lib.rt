@@ -4,6 +4,10 @@
 mod boxes;
 mod limits;
 mod running;
+mod seats;
 mod supersteps;
+#[cfg(test)]
+mod worker_tests;
+mod workers;
 
 pub use running::{go_on, run};

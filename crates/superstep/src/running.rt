@@ -7,8 +7,9 @@ ghost use Rattle.traveller.specs.PartedRuns.{letters_in};
 ghost use Rattle.traveller.specs.Standing.{parted};
 ghost use Rattle.shard_core.specs.SoundWorlds.{HasBegun, HasBegunSomehow, IsSomeWorld, IsSoundWorld, world_data};
 ghost use Rattle.shard_core.specs.Walks.{walks_in};
-ghost use Rattle.superstep.specs.Carried.{IsLogged, count_letters, to_post};
+ghost use Rattle.superstep.specs.Carried.{IsLogged, count_letters};
 ghost use Rattle.superstep.specs.Moments.{IsSettled, Stands, moment};
+ghost use Rattle.superstep.specs.ToPost.{to_post};
 ghost use Rattle.walk_model.specs.declared.messages.Letter.{Letter};
 ghost use Rattle.walk_model.specs.Walk.{walker_count};
 ghost use Rattle.world_law.specs.Worlds.{world_pieces};
@@ -17,16 +18,20 @@ use crate::limits::look_up;
 use crate::supersteps::walk_through;
 use shard_core::{Item, Shard, World};
 use std::alloc::Global;
+use std::thread::Threads;
 use walk_model::{Finished, Memory};
 use walker_mail::{Carrier, Gate};
 
-/// Walks a world from its beginning to its end. In each superstep each shard makes a round, what leaves is packed in
-/// parcels of at most 256 items and posted, and one hand-over is delivered.
+/// Walks a world from its beginning to its end by 1 to 16 workers. In each superstep, of which the first is number 1,
+/// each worker enters the gate with its own number, from 0, and the superstep's, and then each shard whose number
+/// modulo `workers` is the worker's makes one round. What leaves is packed in parcels of at most 256 items and posted in
+/// the order of the shards, and one hand-over is delivered. With one worker no thread is started.
 ///
 /// # Errors
 ///
 /// `Memory` where there is too little of it; then nothing is known of the carrier.
-pub fn run<C: Carrier<Item>, G: Gate>(
+pub fn run<R: Threads + Sync, C: Carrier<Item>, G: Gate + Sync>(
+    rt: &R,
     alloc: Global,
     world: World,
     workers: u32,
@@ -34,7 +39,8 @@ pub fn run<C: Carrier<Item>, G: Gate>(
     gate: &G,
 ) -> Result<Finished, Memory>
     requires begun { HasBegunSomehow world }
-    requires one { workers ≡ 1 }
+    requires some { 1 ≤ workers }
+    requires most { workers ≤ 16 }
     requires held { C.held carrier.old ≡ [] }
     requires count { C.carried carrier.old ≤ 2 ^ 63 }
     ensures walks { IfOk result (λ f. (g : RowGraph) (run : Run) (cuts : List ℕ) → HasBegun g run cuts world → f ≡ walks_in (parted g run cuts)) }
@@ -44,7 +50,7 @@ pub fn run<C: Carrier<Item>, G: Gate>(
     ensures logged { OnOk result ((g : RowGraph) (run : Run) (cuts : List ℕ) → HasBegun g run cuts world
         → IsLogged (walker_count run.plan.start run.vertices) (letters_in (parted g run cuts)) (C.log carrier.old) (C.log carrier.new)) }
 {
-    let finished = go_on(alloc, world, workers, carrier, gate)?;
+    let finished = go_on(rt, alloc, world, workers, carrier, gate)?;
     Ok(finished)
 }
 
@@ -62,12 +68,14 @@ fn finish(alloc: Global, shards: Vec<Shard>) -> Result<Finished, Memory>
     Ok(finished)
 }
 
-/// Goes on from a sound world to its end. What is in flight is posted first, each item from the sender in its letter.
+/// Goes on from a sound world to its end, as `run` does. What is in flight is posted first, each item from the sender
+/// in its letter.
 ///
 /// # Errors
 ///
 /// `Memory` where there is too little of it; then nothing is known of the carrier.
-pub fn go_on<C: Carrier<Item>, G: Gate>(
+pub fn go_on<R: Threads + Sync, C: Carrier<Item>, G: Gate + Sync>(
+    rt: &R,
     alloc: Global,
     world: World,
     workers: u32,
@@ -76,7 +84,8 @@ pub fn go_on<C: Carrier<Item>, G: Gate>(
 ) -> Result<Finished, Memory>
     requires sound { IsSomeWorld world }
     requires whole { All (λ s. s.whole ≡ true) world.shards.items }
-    requires one { workers ≡ 1 }
+    requires some { 1 ≤ workers }
+    requires most { workers ≤ 16 }
     requires held { C.held carrier.old ≡ [] }
     requires count { C.carried carrier.old ≤ 2 ^ 63 }
     ensures walks { IfOk result (λ f. (g : RowGraph) (run : Run) (cuts : List ℕ) → IsSoundWorld g run cuts world → f ≡ walks_in (parted g run cuts)) }
@@ -87,11 +96,10 @@ pub fn go_on<C: Carrier<Item>, G: Gate>(
     ensures logged { OnOk result ((g : RowGraph) (run : Run) (cuts : List ℕ) → IsSoundWorld g run cuts world
         → IsLogged (walker_count run.plan.start run.vertices) (to_post (parted g run cuts) (world_pieces (world_data world))) (C.log carrier.old) (C.log carrier.new)) }
 {
-    let _workers = workers;
     let World { shards, flight } = world;
     let mut shards = shards;
     look_up(shards.as_slice());
-    walk_through(alloc, shards.as_mut_slice(), flight, carrier, gate)?;
+    walk_through(rt, alloc, &mut shards, flight, workers, carrier, gate)?;
     let finished = finish(alloc, shards)?;
     Ok(finished)
 }

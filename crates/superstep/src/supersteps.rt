@@ -1,137 +1,134 @@
 //! Supersteps, one after another.
 
-ghost use Rattle.std.specs.Prelude.{◌≡◌, ◌+◌, ◌<◌, ◌++◌, ◌^◌, ◌≤◌, ℕ, true, [], length, slice_index_or, All, IfOk, OnOk};
+ghost use Rattle.std.specs.Prelude.{◌≡◌, ◌+◌, ◌<◌, ◌++◌, ◌^◌, ◌≤◌, ℕ, true, [], length, All, IfOk, OnOk};
 ghost use Rattle.world_law.specs.Items.{letter_of};
 ghost use Rattle.shard_core.specs.Items.{item_of};
 ghost use Rattle.shard_core.specs.SoundWorlds.{flight_of};
-ghost use Rattle.superstep.specs.Boxes.{AreAtHome, IsDue, boxed};
+ghost use Rattle.superstep.specs.Boxes.{AreAtHome, IsDue, joined, opened};
 ghost use Rattle.superstep.specs.Moments.{IsAddressed, IsGoing, IsSettled, Passes, moment, sent_of};
-ghost use Rattle.superstep.specs.Rounding.{AreReached, HaveMade, Reaches, RoundIs, arrived};
+ghost use Rattle.superstep.specs.Rounding.{AreReached, HavePacked, arrived};
 
-use crate::boxes::{by_addressee, by_sender, empty_boxes, post_each};
+use crate::boxes::{by_addressee, by_sender, empty_boxes, post_all, post_each};
+use crate::seats::{part_all, seat_each};
+use crate::workers::work_side_by_side;
 use shard_core::{Item, Shard};
 use std::alloc::Global;
+use std::mem;
+use std::thread::Threads;
 use walk_model::Memory;
-use walker_mail::{Addressed, Carrier, Gate, count_items};
+use walker_mail::{Addressed, Carrier, Gate, Parcel, count_items};
 
-/// A shard's round. The shard's run suits its part, so it takes in what goes there and fits among the parts.
-fn round_of_shard(
+/// Each shard makes a round, with the parcels that came for it in its box. The shards after it, and the parcels of all
+/// that they gave out, in the order of the shards, are the result.
+fn make_rounds<R: Threads + Sync, G: Gate + Sync>(
+    rt: &R,
     alloc: Global,
-    shard: &mut Shard,
-    arrivals: Vec<Item>,
-) -> Result<Vec<Addressed<Item>>, Memory>
-    requires whole { shard.old.whole ≡ true }
-    requires reached { All (Reaches shard.old) arrivals.items }
-    ensures made { IfOk result (λ out. RoundIs shard.old arrivals shard.new out) }
-    ensures whole { OnOk result (shard.new.whole ≡ true) }
+    shards: Vec<Shard>,
+    boxes: Vec<Vec<Parcel<Item>>>,
+    workers: u32,
+    gate: &G,
+    turn: u64,
+) -> Result<(Vec<Shard>, Vec<Parcel<Item>>), Memory>
+    requires some { 1 ≤ workers }
+    requires whole { All (λ s. s.whole ≡ true) shards.items }
+    requires reached { AreReached shards.items (opened boxes.items) }
+    ensures made { IfOk result (λ r. HavePacked shards.items (opened boxes.items) r.0.items r.1.items) }
+    ensures whole { IfOk result (λ r. All (λ s. s.whole ≡ true) r.0.items) }
 {
-    let _run = shard.run();
-    let out = shard.round(alloc, arrivals)?;
-    Ok(out)
+    let seats = seat_each(alloc, shards, boxes)?;
+    let turned = work_side_by_side(rt, alloc, seats, workers, gate, turn)?;
+    let parted = part_all(alloc, turned)?;
+    Ok(parted)
 }
 
-/// The shards of one worker make a round each, with what arrives for each in its box. What each gives out is in its box
-/// then.
-fn make_rounds(
-    alloc: Global,
-    shards: &mut [Shard],
-    arrivals: Vec<Vec<Item>>,
-) -> Result<Vec<Vec<Addressed<Item>>>, Memory>
-    requires whole { All (λ s. s.whole ≡ true) shards.old }
-    requires reached { AreReached shards.old arrivals.items }
-    ensures made { IfOk result (λ given. HaveMade shards.old arrivals.items shards.new given.items) }
-    ensures whole { OnOk result (All (λ s. s.whole ≡ true) shards.new) }
-{
-    let mut given = Vec::with_capacity(alloc, shards.len())?;
-    let mut k = 0usize;
-    'rounds: for items in arrivals {
-        let out = round_of_shard(alloc, &mut shards[k], items)?;
-        given.push(out)?;
-        k += 1;
-    }
-    Ok(given)
-}
-
-/// A superstep: the worker enters, its shards make their rounds, and what they give out is posted. How many items these
+/// A superstep: the workers enter, the shards make their rounds, and what they give out is posted. How many items these
 /// are is the result.
-fn superstep<C: Carrier<Item>, G: Gate>(
+fn superstep<R: Threads + Sync, C: Carrier<Item>, G: Gate + Sync>(
+    rt: &R,
     alloc: Global,
-    shards: &mut [Shard],
-    arrivals: Vec<Vec<Item>>,
+    shards: &mut Vec<Shard>,
+    boxes: Vec<Vec<Parcel<Item>>>,
+    workers: u32,
     carrier: &mut C,
     gate: &G,
     turn: u64,
 ) -> Result<u64, Memory>
-    requires few { length shards.old ≤ 256 }
-    requires whole { All (λ s. s.whole ≡ true) shards.old }
-    requires long { length arrivals.items ≡ length shards.old }
-    requires sorted { AreAtHome arrivals.items }
+    requires workers { 1 ≤ workers }
+    requires whole { All (λ s. s.whole ≡ true) shards.old.items }
+    requires long { length boxes.items ≡ length shards.old.items }
+    requires sorted { AreAtHome (opened boxes.items) }
     requires addressed { All IsAddressed (C.held carrier.old) }
-    requires going { IsGoing (moment shards.old [] (arrived (boxed arrivals.items) ++ sent_of (C.held carrier.old)) (C.carried carrier.old) (C.log carrier.old)) }
-    ensures passes { OnOk result (Passes (length (boxed arrivals.items))
-        (moment shards.old [] (arrived (boxed arrivals.items) ++ sent_of (C.held carrier.old)) (C.carried carrier.old) (C.log carrier.old))
-        (moment shards.new [] (sent_of (C.held carrier.new)) (C.carried carrier.new) (C.log carrier.new))) }
-    ensures settled { OnOk result (All IsSettled shards.new) }
-    ensures whole { OnOk result (All (λ s. s.whole ≡ true) shards.new) }
+    requires going { IsGoing (moment shards.old.items [] (arrived (joined (opened boxes.items)) ++ sent_of (C.held carrier.old)) (C.carried carrier.old) (C.log carrier.old)) }
+    ensures passes { OnOk result (Passes (length (joined (opened boxes.items)))
+        (moment shards.old.items [] (arrived (joined (opened boxes.items)) ++ sent_of (C.held carrier.old)) (C.carried carrier.old) (C.log carrier.old))
+        (moment shards.new.items [] (sent_of (C.held carrier.new)) (C.carried carrier.new) (C.log carrier.new))) }
+    ensures settled { OnOk result (All IsSettled shards.new.items) }
+    ensures whole { OnOk result (All (λ s. s.whole ≡ true) shards.new.items) }
     ensures addressed { OnOk result (All IsAddressed (C.held carrier.new)) }
     ensures count { IfOk result (λ n. length (C.held carrier.new) ≡ length (C.held carrier.old) + n) }
 {
-    gate.enter(0, turn);
-    let given = make_rounds(alloc, shards, arrivals)?;
-    let count = post_each(alloc, given, carrier)?;
+    let before = mem::replace(shards, Vec::new(alloc));
+    let (after, parcels) = make_rounds(rt, alloc, before, boxes, workers, gate, turn)?;
+    *shards = after;
+    let count = post_all(parcels, carrier)?;
     Ok(count)
 }
 
 /// One hand-over is delivered, and the next superstep is made. How many items are held then is the result.
-fn next_superstep<C: Carrier<Item>, G: Gate>(
+fn next_superstep<R: Threads + Sync, C: Carrier<Item>, G: Gate + Sync>(
+    rt: &R,
     alloc: Global,
-    shards: &mut [Shard],
+    shards: &mut Vec<Shard>,
     afloat: u64,
+    workers: u32,
     carrier: &mut C,
     gate: &G,
     turn: u64,
 ) -> Result<u64, Memory>
-    requires few { length shards.old ≤ 256 }
-    requires whole { All (λ s. s.whole ≡ true) shards.old }
+    requires workers { 1 ≤ workers }
+    requires whole { All (λ s. s.whole ≡ true) shards.old.items }
     requires addressed { All IsAddressed (C.held carrier.old) }
-    requires going { IsGoing (moment shards.old [] (sent_of (C.held carrier.old)) (C.carried carrier.old) (C.log carrier.old)) }
+    requires going { IsGoing (moment shards.old.items [] (sent_of (C.held carrier.old)) (C.carried carrier.old) (C.log carrier.old)) }
     requires afloat { afloat ≡ length (C.held carrier.old) }
     requires some { 0 < afloat }
     ensures passes { OnOk result (Passes 1
-        (moment shards.old [] (sent_of (C.held carrier.old)) (C.carried carrier.old) (C.log carrier.old))
-        (moment shards.new [] (sent_of (C.held carrier.new)) (C.carried carrier.new) (C.log carrier.new))) }
-    ensures settled { OnOk result (All IsSettled shards.new) }
-    ensures whole { OnOk result (All (λ s. s.whole ≡ true) shards.new) }
+        (moment shards.old.items [] (sent_of (C.held carrier.old)) (C.carried carrier.old) (C.log carrier.old))
+        (moment shards.new.items [] (sent_of (C.held carrier.new)) (C.carried carrier.new) (C.log carrier.new))) }
+    ensures settled { OnOk result (All IsSettled shards.new.items) }
+    ensures whole { OnOk result (All (λ s. s.whole ≡ true) shards.new.items) }
     ensures addressed { OnOk result (All IsAddressed (C.held carrier.new)) }
     ensures afloat { IfOk result (λ n. n ≡ length (C.held carrier.new)) }
 {
     let parcels = carrier.hand_over(alloc)?;
     let handed = count_items(&parcels);
-    let arrivals = by_addressee(alloc, parcels, shards.len())?;
-    let posted = superstep(alloc, shards, arrivals, carrier, gate, turn)?;
+    let boxes = by_addressee(alloc, parcels, shards.len())?;
+    let posted = superstep(rt, alloc, shards, boxes, workers, carrier, gate, turn)?;
     Ok(afloat - handed + posted)
 }
 
 /// Posts what is in flight, each item from its sender, and makes the first superstep. How many items are held then is
 /// the result.
-fn set_out<C: Carrier<Item>, G: Gate>(
+fn set_out<R: Threads + Sync, C: Carrier<Item>, G: Gate + Sync>(
+    rt: &R,
     alloc: Global,
-    shards: &mut [Shard],
+    shards: &mut Vec<Shard>,
     flight: Vec<Addressed<Item>>,
+    workers: u32,
     carrier: &mut C,
     gate: &G,
 ) -> Result<u64, Memory>
-    requires few { length shards.old ≤ 256 }
-    requires whole { All (λ s. s.whole ≡ true) shards.old }
+    requires workers { 1 ≤ workers }
+    requires few { length shards.old.items ≤ 256 }
+    requires whole { All (λ s. s.whole ≡ true) shards.old.items }
     requires due { All IsDue flight.items }
-    requires from { All (λ a. (letter_of (item_of a.item)).from < length shards.old) flight.items }
+    requires from { All (λ a. (letter_of (item_of a.item)).from < length shards.old.items) flight.items }
     requires held { C.held carrier.old ≡ [] }
-    requires going { IsGoing (moment shards.old (flight_of flight.items) [] (C.carried carrier.old) (C.log carrier.old)) }
+    requires going { IsGoing (moment shards.old.items (flight_of flight.items) [] (C.carried carrier.old) (C.log carrier.old)) }
     ensures passes { OnOk result (Passes 0
-        (moment shards.old (flight_of flight.items) [] (C.carried carrier.old) (C.log carrier.old))
-        (moment shards.new [] (sent_of (C.held carrier.new)) (C.carried carrier.new) (C.log carrier.new))) }
-    ensures settled { OnOk result (All IsSettled shards.new) }
-    ensures whole { OnOk result (All (λ s. s.whole ≡ true) shards.new) }
+        (moment shards.old.items (flight_of flight.items) [] (C.carried carrier.old) (C.log carrier.old))
+        (moment shards.new.items [] (sent_of (C.held carrier.new)) (C.carried carrier.new) (C.log carrier.new))) }
+    ensures settled { OnOk result (All IsSettled shards.new.items) }
+    ensures whole { OnOk result (All (λ s. s.whole ≡ true) shards.new.items) }
     ensures addressed { OnOk result (All IsAddressed (C.held carrier.new)) }
     ensures afloat { IfOk result (λ n. n ≡ length (C.held carrier.new)) }
 {
@@ -139,60 +136,74 @@ fn set_out<C: Carrier<Item>, G: Gate>(
     let boxes = by_sender(alloc, flight, parts)?;
     let posted = post_each(alloc, boxes, carrier)?;
     let none = empty_boxes(alloc, parts)?;
-    let more = superstep(alloc, shards, none, carrier, gate, 1)?;
+    let more = superstep(rt, alloc, shards, none, workers, carrier, gate, 1)?;
     Ok(posted + more)
 }
 
 /// Delivers and makes supersteps until nothing is held.
-fn go_through<C: Carrier<Item>, G: Gate>(
+fn go_through<R: Threads + Sync, C: Carrier<Item>, G: Gate + Sync>(
+    rt: &R,
     alloc: Global,
-    shards: &mut [Shard],
+    shards: &mut Vec<Shard>,
     afloat: u64,
+    workers: u32,
     carrier: &mut C,
     gate: &G,
 ) -> Result<(), Memory>
-    requires few { length shards.old ≤ 256 }
-    requires whole { All (λ s. s.whole ≡ true) shards.old }
-    requires settled { All IsSettled shards.old }
+    requires workers { 1 ≤ workers }
+    requires whole { All (λ s. s.whole ≡ true) shards.old.items }
+    requires settled { All IsSettled shards.old.items }
     requires addressed { All IsAddressed (C.held carrier.old) }
-    requires going { IsGoing (moment shards.old [] (sent_of (C.held carrier.old)) (C.carried carrier.old) (C.log carrier.old)) }
+    requires going { IsGoing (moment shards.old.items [] (sent_of (C.held carrier.old)) (C.carried carrier.old) (C.log carrier.old)) }
     requires afloat { afloat ≡ length (C.held carrier.old) }
     ensures passes { OnOk result ((n : ℕ) × Passes n
-        (moment shards.old [] (sent_of (C.held carrier.old)) (C.carried carrier.old) (C.log carrier.old))
-        (moment shards.new [] (sent_of (C.held carrier.new)) (C.carried carrier.new) (C.log carrier.new))) }
-    ensures settled { OnOk result (All IsSettled shards.new) }
+        (moment shards.old.items [] (sent_of (C.held carrier.old)) (C.carried carrier.old) (C.log carrier.old))
+        (moment shards.new.items [] (sent_of (C.held carrier.new)) (C.carried carrier.new) (C.log carrier.new))) }
+    ensures settled { OnOk result (All IsSettled shards.new.items) }
     ensures held { OnOk result (C.held carrier.new ≡ []) }
 {
     let mut afloat = afloat;
     let mut deliveries = 0u64;
     'delivering: while afloat > 0 {
-        afloat = next_superstep(alloc, shards, afloat, carrier, gate, deliveries + 2)?;
+        afloat = next_superstep(
+            rt,
+            alloc,
+            shards,
+            afloat,
+            workers,
+            carrier,
+            gate,
+            deliveries + 2,
+        )?;
         deliveries += 1;
     }
     Ok(())
 }
 
 /// Posts what is in flight, and makes supersteps until nothing is held.
-pub(crate) fn walk_through<C: Carrier<Item>, G: Gate>(
+pub(crate) fn walk_through<R: Threads + Sync, C: Carrier<Item>, G: Gate + Sync>(
+    rt: &R,
     alloc: Global,
-    shards: &mut [Shard],
+    shards: &mut Vec<Shard>,
     flight: Vec<Addressed<Item>>,
+    workers: u32,
     carrier: &mut C,
     gate: &G,
 ) -> Result<(), Memory>
-    requires few { length shards.old ≤ 256 }
-    requires whole { All (λ s. s.whole ≡ true) shards.old }
+    requires workers { 1 ≤ workers }
+    requires few { length shards.old.items ≤ 256 }
+    requires whole { All (λ s. s.whole ≡ true) shards.old.items }
     requires due { All IsDue flight.items }
-    requires from { All (λ a. (letter_of (item_of a.item)).from < length shards.old) flight.items }
+    requires from { All (λ a. (letter_of (item_of a.item)).from < length shards.old.items) flight.items }
     requires held { C.held carrier.old ≡ [] }
-    requires going { IsGoing (moment shards.old (flight_of flight.items) [] (C.carried carrier.old) (C.log carrier.old)) }
+    requires going { IsGoing (moment shards.old.items (flight_of flight.items) [] (C.carried carrier.old) (C.log carrier.old)) }
     ensures passes { OnOk result ((n : ℕ) × Passes n
-        (moment shards.old (flight_of flight.items) [] (C.carried carrier.old) (C.log carrier.old))
-        (moment shards.new [] [] (C.carried carrier.new) (C.log carrier.new))) }
-    ensures settled { OnOk result (All IsSettled shards.new) }
+        (moment shards.old.items (flight_of flight.items) [] (C.carried carrier.old) (C.log carrier.old))
+        (moment shards.new.items [] [] (C.carried carrier.new) (C.log carrier.new))) }
+    ensures settled { OnOk result (All IsSettled shards.new.items) }
     ensures held { OnOk result (C.held carrier.new ≡ []) }
 {
-    let afloat = set_out(alloc, shards, flight, carrier, gate)?;
-    go_through(alloc, shards, afloat, carrier, gate)?;
+    let afloat = set_out(rt, alloc, shards, flight, workers, carrier, gate)?;
+    go_through(rt, alloc, shards, afloat, workers, carrier, gate)?;
     Ok(())
 }

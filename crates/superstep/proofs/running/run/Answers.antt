@@ -3,7 +3,7 @@ use Rattle.traveller.specs.PartedRuns.{letters_in}
 use Rattle.traveller.specs.Standing.{parted}
 use Rattle.world_law.specs.Worlds.{world_pieces}
 use Rattle.shard_core.specs.SoundWorlds.{world_data}
-use Rattle.superstep.specs.Carried.{to_post}
+use Rattle.superstep.specs.ToPost.{to_post}
 use Rattle.superstep.proofs.SumLemmas.{sum_below-alike}
 use Rattle.superstep.proofs.EndLemmas.{begun-posted, logged-alike}
 use Rattle.superstep.proofs.running.run.Goals as goal
