@@ -22,7 +22,7 @@ abbrev pub IsQuickInRange : QuickWords → Type 0
 IsQuickInRange q = q.length ≤ most_length
 
 abbrev pub IsWalkInRange : WalkWords → Type 0
-IsWalkInRange w = (1 ≤ w.parts) × (w.parts ≤ most_parts) × (w.workers ≤ most_workers)
+IsWalkInRange w = (1 ≤ w.parts) × (w.parts ≤ most_parts) × (1 ≤ w.workers) × (w.workers ≤ most_workers)
 
 abbrev pub IsInRange : Words → Type 0
 IsInRange (is.Quick q) = IsQuickInRange q

@@ -12,16 +12,17 @@ use shard_core::Item;
 use std::alloc::Global;
 use std::process::Abort;
 use std::test::Fail;
+use std::thread::Threads;
 use walk_model::{Letter, Memory, What};
 use walk_programme::read_plan;
 use walker_mail::{Carrier, InOrder, OneByOne, Parcel, Recording, Reversed, Shuffled};
 
-/// Asserts what `walk g p --seed 7` answers in so many parts over a carrier.
-fn expect_over<R: Abort + AllocGlobal, C: Carrier<Item>>(
+/// Asserts what `walk g p --seed 7` answers in so many parts, by so many workers, over a carrier.
+pub(crate) fn expect_over<R: Abort + Threads + Sync + AllocGlobal, C: Carrier<Item>>(
     rt: &R,
     graph: &str,
     lines: &str,
-    parts: u32,
+    many: (u32, u32),
     out: &str,
     carrier: &mut C,
 ) -> Result<(), Memory>
@@ -29,11 +30,22 @@ fn expect_over<R: Abort + AllocGlobal, C: Carrier<Item>>(
     requires count { C.carried carrier.old ≤ 2 ^ 63 }
 {
     let alloc = rt.alloc();
+    let (parts, workers) = many;
     let programme = programme_of(alloc, lines)?;
     let parts = format!(in alloc; "{parts}")?;
     let mut files = files_of(alloc, "g", graph, &[], 65536)?;
     add_file(alloc, &mut files, "p", programme.as_str())?;
-    let words = ["walk", "g", "p", "--seed", "7", "--parts", parts.as_str()];
+    let workers = format!(in alloc; "--workers={workers}")?;
+    let words = [
+        "walk",
+        "g",
+        "p",
+        "--seed",
+        "7",
+        "--parts",
+        parts.as_str(),
+        workers.as_str(),
+    ];
     let answer = answer_by(rt, &words, &mut files, &[], 4096, carrier)?;
     assert!(rt; answer.status == 0, "{lines}");
     assert!(rt; answer.out.bytes.as_slice() == out.as_bytes(), "{lines}");
@@ -41,8 +53,8 @@ fn expect_over<R: Abort + AllocGlobal, C: Carrier<Item>>(
     Ok(())
 }
 
-/// The same over each carrier.
-fn expect_carried<R: Abort + AllocGlobal>(
+/// The same by one worker over each carrier.
+fn expect_carried<R: Abort + Threads + Sync + AllocGlobal>(
     rt: &R,
     graph: &str,
     lines: &str,
@@ -50,14 +62,15 @@ fn expect_carried<R: Abort + AllocGlobal>(
     out: &str,
 ) -> Result<(), Memory> {
     let alloc = rt.alloc();
+    let many = (parts, 1);
     let mut in_order: InOrder<Item> = InOrder::new(alloc);
-    expect_over(rt, graph, lines, parts, out, &mut in_order)?;
+    expect_over(rt, graph, lines, many, out, &mut in_order)?;
     let mut reversed: Reversed<Item> = Reversed::new(alloc);
-    expect_over(rt, graph, lines, parts, out, &mut reversed)?;
+    expect_over(rt, graph, lines, many, out, &mut reversed)?;
     let mut one_by_one: OneByOne<Item> = OneByOne::new(alloc);
-    expect_over(rt, graph, lines, parts, out, &mut one_by_one)?;
+    expect_over(rt, graph, lines, many, out, &mut one_by_one)?;
     let mut shuffled: Shuffled<Item> = Shuffled::new(alloc, 5);
-    expect_over(rt, graph, lines, parts, out, &mut shuffled)?;
+    expect_over(rt, graph, lines, many, out, &mut shuffled)?;
     Ok(())
 }
 
@@ -92,7 +105,7 @@ fn parts_change_no_byte(rt: HostRuntime) -> Result<(), Fail> {
 }
 
 /// Asserts that a programme's walks of a graph in parts are those of the definition.
-fn expect_plain_carried<R: Abort + AllocGlobal>(
+fn expect_plain_carried<R: Abort + Threads + Sync + AllocGlobal>(
     rt: &R,
     lines: &[Line],
     programme: &str,
@@ -103,7 +116,7 @@ fn expect_plain_carried<R: Abort + AllocGlobal>(
     match read_plan(alloc, text.as_bytes()) {
         Ok(plan) => {
             let edges = edges_of(alloc, lines, plan.undirected)?;
-            let want = plain_lines(alloc, &edges, &plan)?;
+            let want = plain_lines(alloc, &edges, &plan, 1000)?;
             let graph = text_of(alloc, lines)?;
             expect_carried(rt, graph.as_str(), programme, 2, want.as_str())?;
             expect_carried(rt, graph.as_str(), programme, 5, want.as_str())
@@ -130,7 +143,7 @@ fn walks_over_parts_are_those_of_the_definition(rt: HostRuntime) -> Result<(), F
 }
 
 /// The letters that go over the cycle in three parts.
-fn letters_of<R: Abort + AllocGlobal>(
+fn letters_of<R: Abort + Threads + Sync + AllocGlobal>(
     rt: &R,
     lines: &str,
     walker: u64,
@@ -138,7 +151,7 @@ fn letters_of<R: Abort + AllocGlobal>(
     let alloc = rt.alloc();
     let mut carrier: Recording<Item, InOrder<Item>> = Recording::new(alloc, InOrder::new(alloc));
     let walks = "0 1 2 0\n1 2 0 1\n2 0 1 2\n";
-    expect_over(rt, CYCLE, lines, 3, walks, &mut carrier)?;
+    expect_over(rt, CYCLE, lines, (3, 1), walks, &mut carrier)?;
     let mut letters = Vec::new(alloc);
     for letter in carrier.letters() {
         if letter.walker == walker {
@@ -244,7 +257,7 @@ fn letters_are_posted_as_walks_go(rt: HostRuntime) -> Result<(), Fail> {
     };
     let lines = "length = 3; retries = 0; p = '1/2'; q = '2'";
     let walks = "0 1 2 0\n1 2 0 1\n2 0 1 2\n";
-    expect_over(&rt, CYCLE, lines, 3, walks, &mut carrier)?;
+    expect_over(&rt, CYCLE, lines, (3, 1), walks, &mut carrier)?;
     assert_eq!(rt;
         carrier.lengths.as_slice(),
         [3u64, 6, 9, 12, 15, 18, 21].as_slice()

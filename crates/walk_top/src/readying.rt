@@ -11,7 +11,7 @@ ghost use Rattle.vertex_partition.specs.Limits.{most_parts, most_vertices};
 
 use crate::cutting::cuts_between;
 use crate::ranking::rows_of;
-use std::alloc::Global;
+use std::thread::Threads;
 use traveller::Run;
 use vertex_names::Names;
 use vertex_partition::{PartRows, first_overflow, split};
@@ -103,8 +103,8 @@ fn judge_counts(plan: &Plan, names: &Names) -> Result<Option<u32>, WalkFault>
 ///
 /// The first of these: a count that passes its limit, a start that is missing, the least vertex at which a step could overflow.
 /// Besides, there may be no memory.
-pub(crate) fn make_ready(
-    alloc: Global,
+pub(crate) fn make_ready<R: Threads + Sync + AllocGlobal>(
+    rt: &R,
     edges: Vec<Edge>,
     plan: Plan,
     seed: u64,
@@ -118,6 +118,7 @@ pub(crate) fn make_ready(
     ensures ready { IfOk result (IsReadyFor edges.items plan seed parts) }
     ensures fault { IfErr result (λ f. (task_fault plan edges.items ≡ Some f) ⊎ (f ≡ fault.Memory)) }
 {
+    let alloc = rt.alloc();
     let Ok(names) = Names::of(alloc, &edges) else {
         return Err(WalkFault::Memory);
     };
@@ -135,7 +136,7 @@ pub(crate) fn make_ready(
     let Ok(cuts) = cuts_between(alloc, &rows, parts) else {
         return Err(WalkFault::Memory);
     };
-    let Ok(parts) = split(alloc, rows, plan.weighted, &cuts) else {
+    let Ok(parts) = split(rt, rows, plan.weighted, &cuts) else {
         return Err(WalkFault::Memory);
     };
     let run = Run {

@@ -6,6 +6,7 @@ use shard_core::Item;
 use std::alloc::{AllocError, Global};
 use std::process::Abort;
 use std::test::Fail;
+use std::thread::Threads;
 use walk_io::MemorySink;
 use walk_model::Memory;
 use walker_mail::{InOrder, NoGate};
@@ -167,7 +168,7 @@ fn weights_up_to_the_overflow(rt: HostRuntime) -> Result<(), Fail> {
 }
 
 /// Asserts what words of `walk` answer on a graph and a programme, where the read calls in the list fail.
-fn expect_refusal<R: Abort + AllocGlobal>(
+fn expect_refusal<R: Abort + Threads + Sync + AllocGlobal>(
     rt: &R,
     words: &str,
     graph: &str,
@@ -309,7 +310,7 @@ fn long_programmes_fail_in_order(rt: HostRuntime) -> Result<(), Fail> {
 }
 
 /// Asserts that words give the walks of the cycle, where one of the two files is standard input.
-fn expect_walks_of_input<R: Abort + AllocGlobal>(
+fn expect_walks_of_input<R: Abort + Threads + Sync + AllocGlobal>(
     rt: &R,
     graph: &str,
     programme: &str,

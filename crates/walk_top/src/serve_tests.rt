@@ -6,11 +6,12 @@ use std::alloc::Global;
 use std::process::Abort;
 use std::sync::Wait;
 use std::test::Fail;
+use std::thread::Threads;
 use walk_io::{MemoryFiles, MemorySink, NamedBytes};
 use walk_model::Memory;
 
 /// What `top_serve` answers on words and files. The write calls in the list fail, and take at most `most` bytes.
-fn served<R: AllocGlobal + Wait>(
+fn served<R: Threads + Sync + AllocGlobal + Wait>(
     rt: &R,
     words: &[&str],
     files: &mut MemoryFiles,
@@ -52,7 +53,7 @@ fn expect<R: Abort>(rt: &R, answer: &Answer, status: u8, out: &str, err: &str) {
 }
 
 /// Asserts what `serve g p --seed 1` and these names answer on the cycle.
-fn expect_served<R: Abort + AllocGlobal + Wait>(
+fn expect_served<R: Abort + Threads + Sync + AllocGlobal + Wait>(
     rt: &R,
     names: &[&str],
     requests: &[(&str, &str)],

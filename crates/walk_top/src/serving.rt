@@ -24,8 +24,8 @@ use crate::serve_words::read_serve_words;
 use crate::undivided::{Undivided, make_undivided};
 use request_reader::Request;
 use request_replies::{ReplyFault, write_replies};
-use std::alloc::Global;
 use std::sync::Wait;
+use std::thread::Threads;
 use walk_io::{Files, Sink};
 use walk_model::{Edge, Limit, Plan, StartRule, WalkFault, status};
 
@@ -37,8 +37,8 @@ pub(crate) struct Served {
 }
 
 /// Makes a graph ready for requests, which bring their own starts and lengths.
-fn ready_for_requests(
-    alloc: Global,
+fn ready_for_requests<R: Threads + Sync + AllocGlobal>(
+    rt: &R,
     edges: Vec<Edge>,
     plan: Plan,
     seed: u64,
@@ -55,7 +55,7 @@ fn ready_for_requests(
         length: 0,
         ..plan
     };
-    match make_ready(alloc, edges, plan, seed, 1) {
+    match make_ready(rt, edges, plan, seed, 1) {
         Ok(ready) => Ok(make_undivided(ready)),
         Err(fault) => Err(fault),
     }
@@ -66,8 +66,8 @@ fn ready_for_requests(
 /// # Errors
 ///
 /// The first fault of the words, the programme, the graph, both together, the request files, and the limit of their entries.
-fn find_served<F: Files>(
-    alloc: Global,
+fn find_served<R: Threads + Sync + AllocGlobal, F: Files>(
+    rt: &R,
     words: &[String],
     files: &mut F,
 ) -> Result<Served, WalkFault>
@@ -84,6 +84,7 @@ fn find_served<F: Files>(
     ensures kept { (n : List ℕ) → F.told files.new n ≡ F.told files.old n }
     ensures later { (n : List ℕ) → F.faults files.old n ≤ F.faults files.new n }
 {
+    let alloc = rt.alloc();
     let command = match read_serve_words(alloc, words) {
         Ok(Some(command)) => command,
         Ok(None) => return Err(WalkFault::Words),
@@ -97,7 +98,7 @@ fn find_served<F: Files>(
         Ok(edges) => edges,
         Err(fault) => return Err(fault),
     };
-    let ready = match ready_for_requests(alloc, edges, plan, command.seed) {
+    let ready = match ready_for_requests(rt, edges, plan, command.seed) {
         Ok(ready) => ready,
         Err(fault) => return Err(fault),
     };
@@ -114,7 +115,7 @@ fn find_served<F: Files>(
 }
 
 /// Serves what the words ask for.
-fn serve<R: AllocGlobal + Wait, F: Files, K: Sink>(
+fn serve<R: Threads + Sync + AllocGlobal + Wait, F: Files, K: Sink>(
     rt: &R,
     words: &[String],
     files: &mut F,
@@ -138,7 +139,7 @@ fn serve<R: AllocGlobal + Wait, F: Files, K: Sink>(
     ensures out_later { K.faults out.old ≤ K.faults out.new }
 {
     let alloc = rt.alloc();
-    let served = match find_served(alloc, words, files) {
+    let served = match find_served(rt, words, files) {
         Ok(served) => served,
         Err(fault) => return Err(fault),
     };
@@ -161,7 +162,7 @@ fn serve<R: AllocGlobal + Wait, F: Files, K: Sink>(
 
 /// Does `serve`: walks what the requests of some files ask for, and answers the exit status. It may wait, and promises what it
 /// promises if it returns. Any other first word has status 2.
-pub fn top_serve<R: AllocGlobal + Wait, F: Files, K: Sink, E: Sink>(
+pub fn top_serve<R: Threads + Sync + AllocGlobal + Wait, F: Files, K: Sink, E: Sink>(
     rt: &R,
     words: &[String],
     files: &mut F,

@@ -5,6 +5,7 @@ use crate::tests::{CYCLE, expect_walk, programme_of};
 use std::alloc::Global;
 use std::process::Abort;
 use std::test::Fail;
+use std::thread::Threads;
 use walk_model::{Edge, Limit, Memory, Plan, can_walk, plain_walk};
 use walk_programme::read_plan;
 
@@ -191,10 +192,15 @@ fn push_walk(alloc: Global, text: &mut String, walk: &[u32]) -> Result<(), Memor
     Ok(())
 }
 
-/// The lines of the walks of a plan's walkers by the definition.
-pub(crate) fn plain_lines(alloc: Global, edges: &[Edge], plan: &Plan) -> Result<String, Memory> {
+/// The lines of the walks of a plan's walkers by the definition, or of so many of the first ones.
+pub(crate) fn plain_lines(
+    alloc: Global,
+    edges: &[Edge],
+    plan: &Plan,
+    most: u64,
+) -> Result<String, Memory> {
     let mut text = String::new(alloc);
-    for walker in 0..1000 {
+    for walker in 0..most {
         if !can_walk(alloc, edges, plan, walker)? {
             return Ok(text);
         }
@@ -205,7 +211,7 @@ pub(crate) fn plain_lines(alloc: Global, edges: &[Edge], plan: &Plan) -> Result<
 }
 
 /// Asserts that a programme's walks of a graph are those of the definition.
-fn expect_plain<R: Abort + AllocGlobal>(
+fn expect_plain<R: Abort + Threads + Sync + AllocGlobal>(
     rt: &R,
     lines: &[Line],
     programme: &str,
@@ -216,7 +222,7 @@ fn expect_plain<R: Abort + AllocGlobal>(
     match read_plan(alloc, text.as_bytes()) {
         Ok(plan) => {
             let edges = edges_of(alloc, lines, plan.undirected)?;
-            let want = plain_lines(alloc, &edges, &plan)?;
+            let want = plain_lines(alloc, &edges, &plan, 1000)?;
             let graph = text_of(alloc, lines)?;
             expect_walk(rt, graph.as_str(), programme, 0, want.as_str(), "")
         }

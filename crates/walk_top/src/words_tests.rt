@@ -97,6 +97,11 @@ fn walk_has_places_and_options(rt: HostRuntime) -> Result<(), Fail> {
             ),
             ("walk g - --seed 0", "walk g - 0 1 1"),
             ("walk g p --seed 1 --parts 256", "walk g p 1 256 1"),
+            ("walk g p --seed 1 --workers 1", "walk g p 1 1 1"),
+            (
+                "walk g p --seed 1 --workers=16 --parts 3",
+                "walk g p 1 3 16",
+            ),
         ],
     )?;
     Ok(())
@@ -117,7 +122,10 @@ fn other_places_and_options_are_refused(rt: HostRuntime) -> Result<(), Fail> {
             ("walk g p --seed 1 --parts 0", "none"),
             ("walk g p --seed 1 --parts 257", "none"),
             ("walk g p --seed 1 --workers 0", "none"),
-            ("walk g p --seed 1 --workers=2", "none"),
+            ("walk g p --seed 1 --workers=17", "none"),
+            ("walk g p --seed 1 --workers", "none"),
+            ("walk g p --seed 1 --workers=", "none"),
+            ("walk g p --seed 1 --workers 2 --workers 2", "none"),
             ("walk - - --seed 1", "none"),
             ("walk - -- - --seed 1", "none"),
             ("walk - p --seed -", "none"),

@@ -3,7 +3,7 @@ use Rattle.walk_top.proofs.CarriageLemmas.{on-both}
 use Rattle.walk_top.proofs.walking.walk_between.Goals as goal
 
 pub run-requires-clause-begun : goal.run-requires-clause-begun
-run-requires-clause-begun g c =
+run-requires-clause-begun g c κs within =
     let w = c.requires.walkable in
     record { graph = w.graph; run = c.args.run; cuts = w.cuts; begun = c.in_ok-world.ensures w.graph w.cuts w.of_graph }
 
