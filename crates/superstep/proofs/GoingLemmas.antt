@@ -138,6 +138,12 @@ going-held m h =
     let few = h.few in
     omega (arith, held-few h.graph h.run h.cuts m h.stands)
 
+-- what was ever posted can be counted
+pub going-carried : (m : Moment) → IsGoing m → m.carried < 2 ^ 64
+going-carried m h =
+    let room = h.room in
+    omega arith
+
 -- fewer letters were taken in at least
 pub passes-fewer : (n m : ℕ) (a b : Moment) → m ≤ n → Passes n a b → Passes m a b
 passes-fewer n m a b less f = record {

@@ -12,3 +12,4 @@ pub mod DeliverLemmas
 pub mod ShareLemmas
 pub mod TurnLemmas
 pub mod StepLemmas
+pub mod FlightLemmas

@@ -96,7 +96,7 @@ letters-sent : (ps : List (Posted Item)) → letters_of (λ i. letter_of (item_o
 letters-sent [] = refl
 letters-sent (p ∷ ps) = ap (λ l. letter_of (item_of p.item) ∷ l) (letters-sent ps)
 
-sent-addressed : (ps : List (Posted Item)) → flight_of (map addressed_of ps) ≡ sent_of ps
+pub sent-addressed : (ps : List (Posted Item)) → flight_of (map addressed_of ps) ≡ sent_of ps
 sent-addressed [] = refl
 sent-addressed (p ∷ ps) = ap (λ l. item_of p.item ∷ l) (sent-addressed ps)
 
@@ -136,6 +136,10 @@ pub posted-count : (given : List (Addressed Item)) (many : ℕ) (held held_then 
     (log log_then : Option (List Letter)) → HasPosted given many held held_then carried carried_then log log_then → length held_then ≡ length held + many
 posted-count given many held held_then carried carried_then log log_then h =
     omega (arith, length_permutation (held ++ h.posted) held_then h.beside, length-append held h.posted, h.count)
+
+pub posted-total : (given : List (Addressed Item)) (many : ℕ) (held held_then : List (Posted Item)) (carried carried_then : ℕ)
+    (log log_then : Option (List Letter)) → HasPosted given many held held_then carried carried_then log log_then → carried_then ≡ carried + many
+posted-total given many held held_then carried carried_then log log_then h = omega (arith, h.counted, h.count)
 
 -- what is in boxes reaches the shards
 pub reached-of : (shards : List ShardView) (boxes : List (List Item)) (held : List Sent) (carried : ℕ) (log : Option (List Letter))

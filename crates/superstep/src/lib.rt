@@ -2,6 +2,8 @@
 #![tactic(auto)]
 
 mod boxes;
+#[cfg(test)]
+mod going_tests;
 mod limits;
 mod running;
 mod seats;
@@ -10,4 +12,4 @@ mod supersteps;
 mod worker_tests;
 mod workers;
 
-pub use running::{go_on, run};
+pub use running::{go_on, run, run_counted};

@@ -50,7 +50,40 @@ pub fn run<R: Threads + Sync, C: Carrier<Item>, G: Gate + Sync>(
     ensures logged { OnOk result ((g : RowGraph) (run : Run) (cuts : List ℕ) → HasBegun g run cuts world
         → IsLogged (walker_count run.plan.start run.vertices) (letters_in (parted g run cuts)) (C.log carrier.old) (C.log carrier.new)) }
 {
-    let finished = go_on(rt, alloc, world, workers, carrier, gate)?;
+    let mut total = 0u64;
+    let finished = run_counted(rt, alloc, world, workers, carrier, gate, &mut total)?;
+    Ok(finished)
+}
+
+/// Walks a world as `run` does, and says how many items were posted.
+///
+/// # Errors
+///
+/// `Memory` where there is too little of it; then nothing is known of the carrier and of the number.
+pub fn run_counted<R: Threads + Sync, C: Carrier<Item>, G: Gate + Sync>(
+    rt: &R,
+    alloc: Global,
+    world: World,
+    workers: u32,
+    carrier: &mut C,
+    gate: &G,
+    total: &mut u64,
+) -> Result<Finished, Memory>
+    requires begun { HasBegunSomehow world }
+    requires some { 1 ≤ workers }
+    requires most { workers ≤ 16 }
+    requires held { C.held carrier.old ≡ [] }
+    requires count { C.carried carrier.old ≤ 2 ^ 63 }
+    ensures walks { IfOk result (λ f. (g : RowGraph) (run : Run) (cuts : List ℕ) → HasBegun g run cuts world → f ≡ walks_in (parted g run cuts)) }
+    ensures empty { OnOk result (C.held carrier.new ≡ []) }
+    ensures carried { OnOk result ((g : RowGraph) (run : Run) (cuts : List ℕ) → HasBegun g run cuts world
+        → C.carried carrier.new ≡ C.carried carrier.old + count_letters (walker_count run.plan.start run.vertices) (letters_in (parted g run cuts))) }
+    ensures logged { OnOk result ((g : RowGraph) (run : Run) (cuts : List ℕ) → HasBegun g run cuts world
+        → IsLogged (walker_count run.plan.start run.vertices) (letters_in (parted g run cuts)) (C.log carrier.old) (C.log carrier.new)) }
+    ensures counted { OnOk result ((g : RowGraph) (run : Run) (cuts : List ℕ) → HasBegun g run cuts world
+        → total.new ≡ count_letters (walker_count run.plan.start run.vertices) (letters_in (parted g run cuts))) }
+{
+    let finished = go_to_the_end(rt, alloc, world, workers, carrier, gate, total)?;
     Ok(finished)
 }
 
@@ -96,10 +129,41 @@ pub fn go_on<R: Threads + Sync, C: Carrier<Item>, G: Gate + Sync>(
     ensures logged { OnOk result ((g : RowGraph) (run : Run) (cuts : List ℕ) → IsSoundWorld g run cuts world
         → IsLogged (walker_count run.plan.start run.vertices) (to_post (parted g run cuts) (world_pieces (world_data world))) (C.log carrier.old) (C.log carrier.new)) }
 {
+    let mut total = 0u64;
+    let finished = go_to_the_end(rt, alloc, world, workers, carrier, gate, &mut total)?;
+    Ok(finished)
+}
+
+/// Goes on from a sound world to its end, and says how many items were posted.
+fn go_to_the_end<R: Threads + Sync, C: Carrier<Item>, G: Gate + Sync>(
+    rt: &R,
+    alloc: Global,
+    world: World,
+    workers: u32,
+    carrier: &mut C,
+    gate: &G,
+    total: &mut u64,
+) -> Result<Finished, Memory>
+    requires sound { IsSomeWorld world }
+    requires whole { All (λ s. s.whole ≡ true) world.shards.items }
+    requires some { 1 ≤ workers }
+    requires most { workers ≤ 16 }
+    requires held { C.held carrier.old ≡ [] }
+    requires count { C.carried carrier.old ≤ 2 ^ 63 }
+    ensures walks { IfOk result (λ f. (g : RowGraph) (run : Run) (cuts : List ℕ) → IsSoundWorld g run cuts world → f ≡ walks_in (parted g run cuts)) }
+    ensures empty { OnOk result (C.held carrier.new ≡ []) }
+    ensures carried { OnOk result ((g : RowGraph) (run : Run) (cuts : List ℕ) → IsSoundWorld g run cuts world
+        → C.carried carrier.new ≡ C.carried carrier.old
+        + count_letters (walker_count run.plan.start run.vertices) (to_post (parted g run cuts) (world_pieces (world_data world)))) }
+    ensures logged { OnOk result ((g : RowGraph) (run : Run) (cuts : List ℕ) → IsSoundWorld g run cuts world
+        → IsLogged (walker_count run.plan.start run.vertices) (to_post (parted g run cuts) (world_pieces (world_data world))) (C.log carrier.old) (C.log carrier.new)) }
+    ensures total { OnOk result (C.carried carrier.new ≡ C.carried carrier.old + total.new) }
+{
     let World { shards, flight } = world;
     let mut shards = shards;
     look_up(shards.as_slice());
-    walk_through(rt, alloc, &mut shards, flight, workers, carrier, gate)?;
+    let posted = walk_through(rt, alloc, &mut shards, flight, workers, carrier, gate)?;
+    *total = posted;
     let finished = finish(alloc, shards)?;
     Ok(finished)
 }

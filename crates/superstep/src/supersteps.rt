@@ -66,6 +66,7 @@ fn superstep<R: Threads + Sync, C: Carrier<Item>, G: Gate + Sync>(
     ensures whole { OnOk result (All (λ s. s.whole ≡ true) shards.new.items) }
     ensures addressed { OnOk result (All IsAddressed (C.held carrier.new)) }
     ensures count { IfOk result (λ n. length (C.held carrier.new) ≡ length (C.held carrier.old) + n) }
+    ensures total { IfOk result (λ n. C.carried carrier.new ≡ C.carried carrier.old + n) }
 {
     let before = mem::replace(shards, Vec::new(alloc));
     let (after, parcels) = make_rounds(rt, alloc, before, boxes, workers, gate, turn)?;
@@ -74,7 +75,8 @@ fn superstep<R: Threads + Sync, C: Carrier<Item>, G: Gate + Sync>(
     Ok(count)
 }
 
-/// One hand-over is delivered, and the next superstep is made. How many items are held then is the result.
+/// One hand-over is delivered, and the next superstep is made. How many items are held then is the result. Those that
+/// were posted are added to a total.
 fn next_superstep<R: Threads + Sync, C: Carrier<Item>, G: Gate + Sync>(
     rt: &R,
     alloc: Global,
@@ -84,6 +86,7 @@ fn next_superstep<R: Threads + Sync, C: Carrier<Item>, G: Gate + Sync>(
     carrier: &mut C,
     gate: &G,
     turn: u64,
+    total: &mut u64,
 ) -> Result<u64, Memory>
     requires workers { 1 ≤ workers }
     requires whole { All (λ s. s.whole ≡ true) shards.old.items }
@@ -91,6 +94,7 @@ fn next_superstep<R: Threads + Sync, C: Carrier<Item>, G: Gate + Sync>(
     requires going { IsGoing (moment shards.old.items [] (sent_of (C.held carrier.old)) (C.carried carrier.old) (C.log carrier.old)) }
     requires afloat { afloat ≡ length (C.held carrier.old) }
     requires some { 0 < afloat }
+    requires total { total.old ≤ C.carried carrier.old }
     ensures passes { OnOk result (Passes 1
         (moment shards.old.items [] (sent_of (C.held carrier.old)) (C.carried carrier.old) (C.log carrier.old))
         (moment shards.new.items [] (sent_of (C.held carrier.new)) (C.carried carrier.new) (C.log carrier.new))) }
@@ -98,17 +102,19 @@ fn next_superstep<R: Threads + Sync, C: Carrier<Item>, G: Gate + Sync>(
     ensures whole { OnOk result (All (λ s. s.whole ≡ true) shards.new.items) }
     ensures addressed { OnOk result (All IsAddressed (C.held carrier.new)) }
     ensures afloat { IfOk result (λ n. n ≡ length (C.held carrier.new)) }
+    ensures total { OnOk result (total.new + C.carried carrier.old ≡ total.old + C.carried carrier.new) }
 {
     let parcels = carrier.hand_over(alloc)?;
     let handed = count_items(&parcels);
     let boxes = by_addressee(alloc, parcels, shards.len())?;
     let posted = superstep(rt, alloc, shards, boxes, workers, carrier, gate, turn)?;
+    *total += posted;
     Ok(afloat - handed + posted)
 }
 
 /// Posts what is in flight, each item from its sender, and makes the first superstep. How many items are held then is
-/// the result.
-fn set_out<R: Threads + Sync, C: Carrier<Item>, G: Gate + Sync>(
+/// the result; all of them were posted here.
+pub(crate) fn set_out<R: Threads + Sync, C: Carrier<Item>, G: Gate + Sync>(
     rt: &R,
     alloc: Global,
     shards: &mut Vec<Shard>,
@@ -131,6 +137,7 @@ fn set_out<R: Threads + Sync, C: Carrier<Item>, G: Gate + Sync>(
     ensures whole { OnOk result (All (λ s. s.whole ≡ true) shards.new.items) }
     ensures addressed { OnOk result (All IsAddressed (C.held carrier.new)) }
     ensures afloat { IfOk result (λ n. n ≡ length (C.held carrier.new)) }
+    ensures total { IfOk result (λ n. C.carried carrier.new ≡ C.carried carrier.old + n) }
 {
     let parts = shards.len();
     let boxes = by_sender(alloc, flight, parts)?;
@@ -140,7 +147,7 @@ fn set_out<R: Threads + Sync, C: Carrier<Item>, G: Gate + Sync>(
     Ok(posted + more)
 }
 
-/// Delivers and makes supersteps until nothing is held.
+/// Delivers and makes supersteps until nothing is held. Items that are posted are added to a total.
 fn go_through<R: Threads + Sync, C: Carrier<Item>, G: Gate + Sync>(
     rt: &R,
     alloc: Global,
@@ -149,6 +156,7 @@ fn go_through<R: Threads + Sync, C: Carrier<Item>, G: Gate + Sync>(
     workers: u32,
     carrier: &mut C,
     gate: &G,
+    total: &mut u64,
 ) -> Result<(), Memory>
     requires workers { 1 ≤ workers }
     requires whole { All (λ s. s.whole ≡ true) shards.old.items }
@@ -156,11 +164,13 @@ fn go_through<R: Threads + Sync, C: Carrier<Item>, G: Gate + Sync>(
     requires addressed { All IsAddressed (C.held carrier.old) }
     requires going { IsGoing (moment shards.old.items [] (sent_of (C.held carrier.old)) (C.carried carrier.old) (C.log carrier.old)) }
     requires afloat { afloat ≡ length (C.held carrier.old) }
+    requires total { total.old ≤ C.carried carrier.old }
     ensures passes { OnOk result ((n : ℕ) × Passes n
         (moment shards.old.items [] (sent_of (C.held carrier.old)) (C.carried carrier.old) (C.log carrier.old))
         (moment shards.new.items [] (sent_of (C.held carrier.new)) (C.carried carrier.new) (C.log carrier.new))) }
     ensures settled { OnOk result (All IsSettled shards.new.items) }
     ensures held { OnOk result (C.held carrier.new ≡ []) }
+    ensures total { OnOk result (total.new + C.carried carrier.old ≡ total.old + C.carried carrier.new) }
 {
     let mut afloat = afloat;
     let mut deliveries = 0u64;
@@ -174,13 +184,14 @@ fn go_through<R: Threads + Sync, C: Carrier<Item>, G: Gate + Sync>(
             carrier,
             gate,
             deliveries + 2,
+            total,
         )?;
         deliveries += 1;
     }
     Ok(())
 }
 
-/// Posts what is in flight, and makes supersteps until nothing is held.
+/// Posts what is in flight, and makes supersteps until nothing is held. How many items were posted is the result.
 pub(crate) fn walk_through<R: Threads + Sync, C: Carrier<Item>, G: Gate + Sync>(
     rt: &R,
     alloc: Global,
@@ -189,7 +200,7 @@ pub(crate) fn walk_through<R: Threads + Sync, C: Carrier<Item>, G: Gate + Sync>(
     workers: u32,
     carrier: &mut C,
     gate: &G,
-) -> Result<(), Memory>
+) -> Result<u64, Memory>
     requires workers { 1 ≤ workers }
     requires few { length shards.old.items ≤ 256 }
     requires whole { All (λ s. s.whole ≡ true) shards.old.items }
@@ -202,8 +213,12 @@ pub(crate) fn walk_through<R: Threads + Sync, C: Carrier<Item>, G: Gate + Sync>(
         (moment shards.new.items [] [] (C.carried carrier.new) (C.log carrier.new))) }
     ensures settled { OnOk result (All IsSettled shards.new.items) }
     ensures held { OnOk result (C.held carrier.new ≡ []) }
+    ensures total { IfOk result (λ n. C.carried carrier.new ≡ C.carried carrier.old + n) }
 {
     let afloat = set_out(rt, alloc, shards, flight, workers, carrier, gate)?;
-    go_through(rt, alloc, shards, afloat, workers, carrier, gate)?;
-    Ok(())
+    let mut total = afloat;
+    go_through(
+        rt, alloc, shards, afloat, workers, carrier, gate, &mut total,
+    )?;
+    Ok(total)
 }

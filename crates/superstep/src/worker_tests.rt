@@ -43,7 +43,7 @@ fn ring(alloc: Global, vertices: u32) -> Result<Vec<Edge>, Memory>
 }
 
 /// Walks of so many steps from every vertex.
-fn plan_of(length: u32, retries: u32, rule: Rule) -> Plan
+pub(crate) fn plan_of(length: u32, retries: u32, rule: Rule) -> Plan
     requires length { length ≤ 1048576 }
     requires retries { retries ≤ 1000 }
     requires rule { IsTrue (rule_in_range rule) }
@@ -62,7 +62,7 @@ fn plan_of(length: u32, retries: u32, rule: Rule) -> Plan
 }
 
 /// The world of a ring in so many parts, before any step of its walks.
-fn begun<R: Threads + Sync + AllocGlobal>(
+pub(crate) fn begun<R: Threads + Sync + AllocGlobal>(
     rt: &R,
     costs: &[u64],
     parts: u32,
@@ -95,7 +95,7 @@ fn begun<R: Threads + Sync + AllocGlobal>(
 }
 
 /// Asserts that walks go round a ring, each from its own vertex, in so many steps.
-fn expect_round<R: Abort>(rt: &R, walks: &Finished, vertices: u32, length: u32) {
+pub(crate) fn expect_round<R: Abort>(rt: &R, walks: &Finished, vertices: u32, length: u32) {
     assert_eq!(rt; walks.count(), u64::from(vertices));
     for i in 0..walks.count() {
         let walk = walks.walk(i);

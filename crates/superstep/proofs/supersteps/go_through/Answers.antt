@@ -1,4 +1,4 @@
-use Rattle.std.proofs.Common.{[], arith}
+use Rattle.std.proofs.Common.{[], arith, refl}
 use Rattle.superstep.specs.Moments.{moment, sent_of}
 use Rattle.superstep.proofs.GoingLemmas.{passes-none, passes-then, going-on, taken-few}
 use Rattle.superstep.proofs.supersteps.go_through.Goals as goal
@@ -9,6 +9,7 @@ delivering-init g c = record {
   settled = c.requires.settled;
   addressed = c.requires.addressed;
   afloat = c.requires.afloat;
+  total = refl;
   passes = passes-none (moment c.args.shards.now.items [] (sent_of (g.C.Carrier.held c.args.carrier.now)) (g.C.Carrier.carried c.args.carrier.now) (g.C.Carrier.log c.args.carrier.now));
 }
 
@@ -24,6 +25,9 @@ next_superstep-requires-clause-going g c κs within =
     let start = moment c.args.shards.now.items [] (sent_of (g.C.Carrier.held c.args.carrier.now)) (g.C.Carrier.carried c.args.carrier.now) (g.C.Carrier.log c.args.carrier.now) in
     let here = moment c.delivering.shards.items [] (sent_of (g.C.Carrier.held c.delivering.carrier)) (g.C.Carrier.carried c.delivering.carrier) (g.C.Carrier.log c.delivering.carrier) in
     going-on c.delivering.deliveries start here c.requires.going c.delivering.invariant.passes
+
+pub next_superstep-requires-clause-total : goal.next_superstep-requires-clause-total
+next_superstep-requires-clause-total g c κs within = omega (arith, c.requires.total, c.delivering.invariant.total)
 
 pub overflow_add-deliveries-in-delivering : goal.overflow_add-deliveries-in-delivering
 overflow_add-deliveries-in-delivering g c =
@@ -49,5 +53,6 @@ delivering-preserved g c =
       settled = c.in_ok-afloat.ensures.settled;
       addressed = c.in_ok-afloat.ensures.addressed;
       afloat = c.in_ok-afloat.ensures.afloat;
+      total = omega (arith, c.delivering.invariant.total, c.in_ok-afloat.ensures.total);
       passes = passes-then c.delivering.deliveries 1 start here next c.delivering.invariant.passes c.in_ok-afloat.ensures.passes;
     }

@@ -1,4 +1,4 @@
-use Rattle.std.proofs.Common.{◌≡◌, ◌^◌, ◌-◌, length, true, []}
+use Rattle.std.proofs.Common.{◌≡◌, ◌^◌, ◌+◌, ◌-◌, length, true, []}
 use Rattle.std.specs.Prelude.{All}
 use Rattle.superstep.specs.Moments.{IsAddressed, IsSettled, Passes, moment, sent_of}
 use Rattle.superstep.proofs.supersteps.go_through.Given as goal
@@ -9,6 +9,7 @@ invariant-delivering g l = record {
   settled : All IsSettled l.shards.items;
   addressed : All IsAddressed (g.C.Carrier.held l.carrier);
   afloat : l.afloat ≡ length (g.C.Carrier.held l.carrier);
+  total : l.total + g.C.Carrier.carried l.fn.carrier ≡ l.fn.total + g.C.Carrier.carried l.carrier;
   passes : Passes l.deliveries
       (moment l.fn.shards.items [] (sent_of (g.C.Carrier.held l.fn.carrier)) (g.C.Carrier.carried l.fn.carrier) (g.C.Carrier.log l.fn.carrier))
       (moment l.shards.items [] (sent_of (g.C.Carrier.held l.carrier)) (g.C.Carrier.carried l.carrier) (g.C.Carrier.log l.carrier));

@@ -11,7 +11,7 @@ use Rattle.superstep.specs.Boxes.{joined, opened}
 use Rattle.superstep.specs.Moments.{IsAddressed, IsGoing, moment, sent_of}
 use Rattle.superstep.specs.Rounding.{arrived}
 use Rattle.superstep.proofs.StepLemmas.{handed-pass, handed-going, handed-count, handed-long, handed-within}
-use Rattle.superstep.proofs.GoingLemmas.{passes-then, passes-fewer, going-on, going-held}
+use Rattle.superstep.proofs.GoingLemmas.{passes-then, passes-fewer, going-on, going-held, going-carried}
 use Rattle.superstep.proofs.supersteps.next_superstep.Goals as goal
 
 pub count_items-handed-requires : goal.count_items-handed-requires
@@ -108,3 +108,21 @@ overflow_add-result g c =
       c.in_ok-posted.ensures.count,
       length-map (g.C.Carrier.held c.superstep.new.carrier) (λ (p : Posted Item). item_of p.item),
     )
+
+pub overflow_add-total : goal.overflow_add-total
+overflow_add-total g c =
+    let held = g.C.Carrier.held c.args.carrier.now in
+    let rest = g.C.Carrier.held c.hand_over.new.self in
+    let items = all_items c.in_ok-parcels.parcels.items in
+    let boxes = opened c.in_ok-boxes.boxes.items in
+    let middle = moment c.args.shards.now.items [] (arrived (joined boxes) ++ sent_of rest) (g.C.Carrier.carried c.hand_over.new.self) (g.C.Carrier.log c.hand_over.new.self) in
+    let end = moment c.superstep.new.shards.items [] (sent_of (g.C.Carrier.held c.superstep.new.carrier)) (g.C.Carrier.carried c.superstep.new.carrier) (g.C.Carrier.log c.superstep.new.carrier) in
+    let going : IsGoing middle =
+    handed-going c.args.shards.now.items held items rest c.len.result boxes (g.C.Carrier.carried c.args.carrier.now) (g.C.Carrier.carried c.hand_over.new.self)
+    (g.C.Carrier.log c.args.carrier.now) (g.C.Carrier.log c.hand_over.new.self) c.in_ok-parcels.ensures.rearranged c.in_ok-boxes.ensures
+    c.in_ok-parcels.ensures.count c.in_ok-parcels.ensures.letters c.requires.going in
+    let few = going-carried end (going-on (length (joined boxes)) middle end going c.in_ok-posted.ensures.passes) in
+    omega (arith, few, c.requires.total, c.in_ok-parcels.ensures.count, c.in_ok-posted.ensures.total)
+
+pub returns-clause-total : goal.returns-clause-total
+returns-clause-total g c = omega (arith, c.in_ok-parcels.ensures.count, c.in_ok-posted.ensures.total)

@@ -4,11 +4,11 @@ use Rattle.walker_mail.specs.declared.parcels.Posted.{Posted}
 use Rattle.shard_core.specs.declared.items.Item.{Item}
 use Rattle.shard_core.specs.Items.{item_of}
 use Rattle.shard_core.specs.SoundWorlds.{flight_of}
-use Rattle.superstep.specs.Boxes.{ComesFrom, joined, opened}
+use Rattle.superstep.specs.Boxes.{ComesFrom, boxed, joined, opened}
 use Rattle.superstep.specs.Moments.{IsGoing, Passes, moment, sent_of}
 use Rattle.superstep.specs.Rounding.{arrived}
 use Rattle.superstep.proofs.DeliverLemmas.{opened-empty, empty-home}
-use Rattle.superstep.proofs.StepLemmas.{out-pass, out-going, out-addressed, out-room, out-count}
+use Rattle.superstep.proofs.StepLemmas.{out-pass, out-going, out-addressed, out-room, out-count, posted-total}
 use Rattle.superstep.proofs.GoingLemmas.{passes-then, passes-fewer, going-on, going-held}
 use Rattle.superstep.proofs.supersteps.set_out.Goals as goal
 
@@ -76,4 +76,14 @@ overflow_add-result g c =
           (g.C.Carrier.held c.post_each.new.carrier) (g.C.Carrier.carried c.args.carrier.now) (g.C.Carrier.carried c.post_each.new.carrier)
           (g.C.Carrier.log c.args.carrier.now) (g.C.Carrier.log c.post_each.new.carrier) c.in_ok-boxes.ensures c.requires.held c.in_ok-posted.ensures,
       length-map (g.C.Carrier.held c.superstep.new.carrier) (λ (p : Posted Item). item_of p.item),
+    )
+
+pub returns-clause-total : goal.returns-clause-total
+returns-clause-total g c =
+    omega (
+      arith,
+      c.in_ok-more.ensures.total,
+      posted-total (boxed c.in_ok-boxes.boxes.items) c.in_ok-posted.posted (g.C.Carrier.held c.args.carrier.now)
+          (g.C.Carrier.held c.post_each.new.carrier) (g.C.Carrier.carried c.args.carrier.now) (g.C.Carrier.carried c.post_each.new.carrier)
+          (g.C.Carrier.log c.args.carrier.now) (g.C.Carrier.log c.post_each.new.carrier) c.in_ok-posted.ensures,
     )

@@ -8,7 +8,7 @@ use Rattle.shard_core.specs.Shards.{ShardView}
 use Rattle.superstep.specs.Boxes.{addressed_of, joined, opened}
 use Rattle.superstep.specs.Rounding.{AreReached, HavePacked}
 use Rattle.superstep.specs.Moments.{sent_of}
-use Rattle.superstep.proofs.StepLemmas.{reached-of, made-due, posted-addressed, posted-count, step-room, step-pass, step-settled}
+use Rattle.superstep.proofs.StepLemmas.{reached-of, made-due, posted-addressed, posted-count, posted-total, step-room, step-pass, step-settled}
 use Rattle.superstep.proofs.supersteps.superstep.Goals as goal
 
 pub make_rounds-requires-clause-reached : goal.make_rounds-requires-clause-reached
@@ -55,5 +55,12 @@ pub returns-clause-count : goal.returns-clause-count
 returns-clause-count g c =
     let packed = subst (λ (v : Vec ShardView Global). HavePacked v.items (opened c.args.boxes.items) c.in_ok-after.after.items c.in_ok-after.parcels.items) c.replace-before.ensures.value c.in_ok-after.ensures.made in
     posted-count (joined packed.given) c.in_ok-count.count (g.C.Carrier.held c.args.carrier.now) (g.C.Carrier.held c.post_all.new.carrier)
+    (g.C.Carrier.carried c.args.carrier.now) (g.C.Carrier.carried c.post_all.new.carrier) (g.C.Carrier.log c.args.carrier.now)
+    (g.C.Carrier.log c.post_all.new.carrier) (c.in_ok-count.ensures (joined packed.given) packed.packed)
+
+pub returns-clause-total : goal.returns-clause-total
+returns-clause-total g c =
+    let packed = subst (λ (v : Vec ShardView Global). HavePacked v.items (opened c.args.boxes.items) c.in_ok-after.after.items c.in_ok-after.parcels.items) c.replace-before.ensures.value c.in_ok-after.ensures.made in
+    posted-total (joined packed.given) c.in_ok-count.count (g.C.Carrier.held c.args.carrier.now) (g.C.Carrier.held c.post_all.new.carrier)
     (g.C.Carrier.carried c.args.carrier.now) (g.C.Carrier.carried c.post_all.new.carrier) (g.C.Carrier.log c.args.carrier.now)
     (g.C.Carrier.log c.post_all.new.carrier) (c.in_ok-count.ensures (joined packed.given) packed.packed)

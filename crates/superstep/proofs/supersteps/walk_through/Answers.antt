@@ -1,4 +1,4 @@
-use Rattle.std.proofs.Common.{◌+◌, [], subst}
+use Rattle.std.proofs.Common.{◌+◌, [], arith, subst}
 use Rattle.shard_core.specs.SoundWorlds.{flight_of}
 use Rattle.superstep.specs.Moments.{Passes, moment, sent_of}
 use Rattle.superstep.proofs.GoingLemmas.{passes-then, going-on}
@@ -21,3 +21,9 @@ returns-clause-passes g c =
       subst (λ h. Passes (0 + rest.0) start (moment c.go_through.new.shards.items [] (sent_of h) (g.C.Carrier.carried c.go_through.new.carrier) (g.C.Carrier.log c.go_through.new.carrier)))
           none (passes-then 0 rest.0 start middle end c.in_ok-afloat.ensures.passes rest.1),
     )
+
+pub go_through-requires-clause-total : goal.go_through-requires-clause-total
+go_through-requires-clause-total g c κs within = omega (arith, c.in_ok-afloat.ensures.total)
+
+pub returns-clause-total : goal.returns-clause-total
+returns-clause-total g c = omega (arith, c.in_ok-afloat.ensures.total, c.in_ok-go_through.ensures.total)
