@@ -32,11 +32,11 @@ use Rattle.shard_core.specs.SoundWorlds.{AreInOrder, ArePartsOf}
 use Rattle.shard_core.specs.Walks.{walks_in}
 use Rattle.superstep.specs.Carried.{IsLogged}
 use Rattle.walk_top.specs.declared.readying.Ready.{Ready}
-use Rattle.walk_top.specs.Carriage.{CarriesTask, HasCarried, LeavesCarrier, parted_run}
-use Rattle.walk_top.specs.Jobs.{Job}
+use Rattle.walk_top.specs.Carriage.{CarriesTask, HasCarried, LeavesCarrier}
+use Rattle.walk_top.specs.Jobs.{Job, parts_of, seed_of}
 use Rattle.walk_top.specs.Limits.{task_fault}
 use Rattle.walk_top.specs.Outcomes.{Cause, OfWords, OfFiles, OfReading, OfWriting, OfMemory, cause_of}
-use Rattle.walk_top.specs.Outputs.{parts_of, seed_of}
+use Rattle.walk_top.specs.PartedTasks.{parted_run}
 use Rattle.walk_top.specs.Readiness.{IsReadyFor, cuts_in, ranked_graph}
 use Rattle.walk_top.specs.Stages.{ComesIn, Stage}
 use Rattle.walk_top.specs.Verdicts.{Finding, Task}
@@ -144,6 +144,10 @@ pub on-both : {X E : Type 0} (r : Result X E) (P Q R : Type 0) → (P → Q → 
 on-both (Ok x) P Q R both p q = both p q
 on-both (Err e) P Q R both p q = tt
 
+pub on-one : {X E : Type 0} (r : Result X E) (P Q : Type 0) → (P → Q) → OnOk r P → OnOk r Q
+on-one (Ok x) P Q more p = more p
+on-one (Err e) P Q more p = tt
+
 pub on-all : {X E : Type 0} (r : Result X E) (P : Type 0) → P → OnOk r P
 on-all (Ok x) P p = p
 on-all (Err e) P p = tt
@@ -187,8 +191,28 @@ pub one-part : (g : RowGraph) (n : ℕ) → n ≡ 1 → length (cuts_in g n) ≡
 unfolding cuts_of up_to
 one-part g n one = ap (λ k. length (cuts_in g k)) one
 
+-- what follows from the plan, the seed and the rank of a start
+pub by-names : {X : Type 0} (L : Settings → ℕ → ℕ → X) (edges : List Edge) (run : Run) (plan : Settings) (seed i : ℕ) → StartsOn (vertices_of edges) run
+    → run.plan ≡ plan → run.seed ≡ seed → i < walker_count run.plan.start run.vertices
+    → L run.plan run.seed (start_rank run.plan.start run.vertices run.start i)
+    ≡ L plan seed (rank_in (vertices_of edges) (start_of plan.start (vertices_of edges) i))
+by-names L edges run plan seed i on by_plan by_seed low =
+    ap (L run.plan run.seed) start ∙ ap (λ p. L p run.seed (rank_in names (start_of p.start names i))) by_plan
+    ∙ ap (λ n. L plan n (rank_in names (start_of plan.start names i))) by_seed
+  where
+    names : List ℕ
+    names = vertices_of edges
+
+    rank : ℕ
+    rank = start_rank run.plan.start run.vertices run.start i
+
+    start : rank ≡ rank_in names (start_of run.plan.start names i)
+    start =
+        sym (rank-at names rank (start_of run.plan.start names i) (increasing-from_Rises 0 names (Rises-vertices edges)) (start-stands names run i on low)
+        (rw on.vertices (start-named run.plan.start names run.start i on.rank)))
+
 -- the letters of walkers that start by ranks
-letters-named : (edges : List Edge) (run : Run) (cuts : List ℕ) (plan : Settings) (seed walkers i : ℕ) → StartsOn (vertices_of edges) run
+pub letters-named : (edges : List Edge) (run : Run) (cuts : List ℕ) (plan : Settings) (seed walkers i : ℕ) → StartsOn (vertices_of edges) run
     → run.plan ≡ plan → run.seed ≡ seed → i < walker_count run.plan.start run.vertices
     → letters_in (parted (ranked_graph (vertices_of edges) edges) run cuts) i
     ≡ letters_in (record {
@@ -199,24 +223,18 @@ letters-named : (edges : List Edge) (run : Run) (cuts : List ℕ) (plan : Settin
       walkers = walkers;
       start = λ walker. rank_in (vertices_of edges) (start_of plan.start (vertices_of edges) walker);
     }) i
-letters-named edges run cuts plan seed walkers i on by_plan by_seed low =
-    ap (L run.plan run.seed) start ∙ ap (λ p. L p run.seed (rank_in names (start_of p.start names i))) by_plan
-    ∙ ap (λ n. L plan n (rank_in names (start_of plan.start names i))) by_seed
+letters-named edges run cuts plan seed walkers i on by_plan by_seed low = by-names L edges run plan seed i on by_plan by_seed low
   where
-    names : List ℕ
-    names = vertices_of edges
-
     L : Settings → ℕ → ℕ → List Letter
     L p n s =
-        letters_after p.length (record { course = course (map (ranked names) edges) p (word n i) s; owner = owner cuts; walker = i }) (first_state s)
+        letters_after p.length (record { course = course (map (ranked (vertices_of edges)) edges) p (word n i) s; owner = owner cuts; walker = i })
+        (first_state s)
 
-    rank : ℕ
-    rank = start_rank run.plan.start run.vertices run.start i
-
-    start : rank ≡ rank_in names (start_of run.plan.start names i)
-    start =
-        sym (rank-at names rank (start_of run.plan.start names i) (increasing-from_Rises 0 names (Rises-vertices edges)) (start-stands names run i on low)
-        (rw on.vertices (start-named run.plan.start names run.start i on.rank)))
+-- a run that is ready has as many walkers as its task
+pub ready-walkers : (edges : List Edge) (plan : Settings) (s n : ℕ) (r : Ready) → IsReadyFor edges plan s n r
+    → walker_count r.run.plan.start r.run.vertices ≡ walker_count plan.start (length (vertices_of edges))
+ready-walkers edges plan s n r ready =
+    ap (λ p. walker_count p.start r.run.vertices) ready.plan_is ∙ ap (walker_count plan.start) ready.vertices
 
 -- what a run that is ready carries is what its task carries
 pub ready-carries : (edges : List Edge) (plan : Settings) (s n : ℕ) (r : Ready) (j : Job) (count count_after : ℕ) (log log_after : Option (List Letter))
@@ -224,15 +242,12 @@ pub ready-carries : (edges : List Edge) (plan : Settings) (s n : ℕ) (r : Ready
     → HasCarried (walker_count r.run.plan.start r.run.vertices) (letters_in (parted (graph_of edges) r.run (cuts_in (graph_of edges) n))) count count_after log log_after
     → CarriesTask (record { job = j; plan = plan; graph = edges }) count count_after log log_after
 ready-carries edges plan s n r j count count_after log log_after ready seed many carried =
-    subst (λ w. HasCarried w (letters_in (parted_run task)) count count_after log log_after) walkers
+    subst (λ w. HasCarried w (letters_in (parted_run task)) count count_after log log_after) (ready-walkers edges plan s n r ready)
     (carried-same (walker_count r.run.plan.start r.run.vertices) (letters_in (parted (graph_of edges) r.run (cuts_in (graph_of edges) n))) (letters_in (parted_run task))
     count count_after log log_after same carried)
   where
     task : Task
     task = record { job = j; plan = plan; graph = edges }
-
-    walkers : walker_count r.run.plan.start r.run.vertices ≡ walker_count plan.start (length (vertices_of edges))
-    walkers = ap (λ p. walker_count p.start r.run.vertices) ready.plan_is ∙ ap (walker_count plan.start) ready.vertices
 
     same : (i : ℕ) → i < walker_count r.run.plan.start r.run.vertices
         → letters_in (parted (graph_of edges) r.run (cuts_in (graph_of edges) n)) i ≡ letters_in (parted_run task) i

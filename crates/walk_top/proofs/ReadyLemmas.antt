@@ -100,12 +100,12 @@ pub ready-for : (plan : Settings) (edges : List Edge) (seed parts : ℕ) {r : Re
     → r.names ≡ names → names ≡ vertices_of edges → r.run.plan ≡ plan → r.run.seed ≡ seed → r.run.vertices ≡ length names
     → IsRankedBy names edges g → length r.parts.items ≡ length cuts + 1
     → ((k : ℕ) (d : PartView) → k < length r.parts.items → IsPart g weighted cuts k (get_or r.parts.items k d))
-    → cuts ≡ cuts_of (costs_of g.edges (below g.vertices)) parts
+    → cuts ≡ cuts_of (costs_of g.edges (below g.vertices)) parts → r.cuts.cuts ≡ cuts
     → IsRankOf plan.start names r.run.start → (0 < walker_count plan.start (length names) → 0 < length names)
     → weighted ≡ plan.weighted → factor ≡ greatest_factor plan.rule
     → None ≡ find (λ v. nat_lt (2 ^ 62) (row_reach g weighted factor v)) (below g.vertices)
     → IsReadyFor edges plan seed parts r
-ready-for plan edges seed parts {r} g names weighted factor cuts kept called by_plan by_seed many by count each cut rank some weighs greatest none =
+ready-for plan edges seed parts {r} g names weighted factor cuts kept called by_plan by_seed many by count each cut held rank some weighs greatest none =
     let here : IsRankedBy (vertices_of edges) edges g = subst (λ (ns : List ℕ). IsRankedBy ns edges g) called by in
     let long : length names ≡ length (vertices_of edges) = ap (λ (ns : List ℕ). length ns) called in
     let by_run : weighted ≡ r.run.plan.weighted = weighs ∙ ap (λ p. p.weighted) (sym by_plan) in
@@ -121,6 +121,7 @@ ready-for plan edges seed parts {r} g names weighted factor cuts kept called by_
       seed_is = by_seed;
       vertices = many ∙ long;
       rank = subst (λ (ns : List ℕ). IsRankOf plan.start ns r.run.start) called rank;
+      cuts_are = held ∙ between;
       parts_are = subst (λ (cs : List ℕ). ArePartsOf (ranked_graph (vertices_of edges) edges) r.run.plan.weighted cs r.parts.items) between all;
       walkable = record {
         suits = λ k d low.

@@ -1,36 +1,17 @@
 -- What a task has carried between the parts that its words ask for.
-use Rattle.std.specs.Prelude.{◌≡◌, ℕ, ◌+◌, List, length, map, Option, Some, None}
+use Rattle.std.specs.Prelude.{◌≡◌, ℕ, ◌+◌, List, Option, Some, None}
 use Rattle.walk_model.specs.declared.messages.Letter.{Letter}
-use Rattle.walk_model.specs.Cuts.{costs_of, cuts_of, owner}
-use Rattle.walk_model.specs.Graph.{vertices_of}
-use Rattle.walk_model.specs.Numbers.{below}
-use Rattle.walk_model.specs.Walk.{start_of, walker_count}
-use Rattle.vertex_names.specs.Ranks.{rank_in, ranked}
-use Rattle.traveller.specs.PartedRuns.{PartedRun, letters_in}
+use Rattle.traveller.specs.PartedRuns.{letters_in}
 use Rattle.superstep.specs.Carried.{IsLogged, count_letters}
-use Rattle.walk_top.specs.Jobs.{Job}
+use Rattle.walk_top.specs.Jobs.{Job, parts_of}
 use Rattle.walk_top.specs.Outcomes.{Cause, OfWords, OfFiles, OfReading, OfWriting, OfMemory}
-use Rattle.walk_top.specs.Outputs.{parts_of, seed_of}
+use Rattle.walk_top.specs.PartedTasks.{parted_run}
 use Rattle.walk_top.specs.Verdicts.{Task}
 
 -- words that ask for one part, or for nothing
 abbrev pub AskForOne : Option Job → Type 0
 AskForOne None = Unit {0}
 AskForOne (Some j) = parts_of j ≡ 1
-
--- the run of a task in ranks, among the parts that its job asks for
-abbrev pub parted_run : Task → PartedRun
-parted_run task =
-    let names = vertices_of task.graph in
-    let edges = map (ranked names) task.graph in
-    record {
-      edges = edges;
-      plan = task.plan;
-      seed = seed_of task.job;
-      owner = owner (cuts_of (costs_of edges (below (length names))) (parts_of task.job));
-      walkers = walker_count task.plan.start (length names);
-      start = λ walker. rank_in names (start_of task.plan.start names walker);
-    }
 
 -- the letters of so many walkers were carried, and no others: the count rose by their number, and a log that is told
 -- was extended by them, those of each walker in their order

@@ -33,13 +33,15 @@ abbrev pub cuts_in : RowGraph → ℕ → List ℕ
 cuts_in g parts = cuts_of (costs_of g.edges (below g.vertices)) parts
 
 -- a graph is ready to be walked by a plan with a seed in so many parts: the names are those of the graph, the run is
--- the plan's over them, its start has its rank, and the parts are, in order, all parts of the graph in ranks
+-- the plan's over them, its start has its rank, and the parts are, in order, all parts of the graph in ranks between
+-- the cuts
 pub record IsReadyFor (edges : List Edge) (plan : Settings) (seed parts : ℕ) (r : Ready) : Type 0 where
   pub names : r.names ≡ vertices_of edges
   pub plan_is : r.run.plan ≡ plan
   pub seed_is : r.run.seed ≡ seed
   pub vertices : r.run.vertices ≡ length (vertices_of edges)
   pub rank : IsRankOf plan.start (vertices_of edges) r.run.start
+  pub cuts_are : r.cuts.cuts ≡ cuts_in (ranked_graph (vertices_of edges) edges) parts
   pub parts_are : (let g = ranked_graph (vertices_of edges) edges in ArePartsOf g r.run.plan.weighted (cuts_in g parts) r.parts.items)
   pub walkable : IsWalkable r.run r.parts.items
 

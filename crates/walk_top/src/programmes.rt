@@ -7,7 +7,7 @@ ghost use Rattle.walk_top.specs.Verdicts.{Found, MayBe, fault_of_plan, plan_foun
 ghost use Rattle.walk_programme.specs.Programme.{plan_of};
 ghost use Rattle.walk_top.specs.ErrorLines.{HasLine};
 ghost use Rattle.walk_top.specs.Stages.{IsRefusal, IsFaultIn};
-ghost use Rattle.walk_top.specs.Jobs.{quick_plan, files_of};
+ghost use Rattle.walk_top.specs.Jobs.{double, files_of, half, made_plan, quick_plan};
 ghost use Rattle.walk_top.specs.JobViews.{job_of, IsInRange};
 
 use crate::files::read_fault;
@@ -89,6 +89,41 @@ fn plan_of_quick(length: u32) -> Plan
     }
 }
 
+/// One half.
+#[tactic(auto, using(crate::proofs::MadeLemmas::ratios))]
+fn half() -> Fraction
+    ensures { result ≡ half }
+{
+    Fraction { top: 1, bottom: 2 }
+}
+
+/// Two.
+#[tactic(auto, using(crate::proofs::MadeLemmas::ratios))]
+fn double() -> Fraction
+    ensures { result ≡ double }
+{
+    Fraction { top: 2, bottom: 1 }
+}
+
+/// The plan of `make`.
+fn plan_of_make() -> Plan
+    ensures { result ≡ made_plan }
+{
+    Plan {
+        weighted: true,
+        undirected: false,
+        length: 20,
+        start: StartRule::Each,
+        retries: 32,
+        stop: Fraction::never(),
+        restart: Fraction::never(),
+        rule: Rule::Node2vec {
+            p: half(),
+            q: double(),
+        },
+    }
+}
+
 /// The plan of a command.
 pub(crate) fn find_plan<F: Files>(
     alloc: Global,
@@ -110,5 +145,6 @@ pub(crate) fn find_plan<F: Files>(
     match words {
         Words::Quick(quick) => Ok(plan_of_quick(quick.length)),
         Words::Walk(walk) => read_programme(alloc, files, walk.programme),
+        Words::Make(_) => Ok(plan_of_make()),
     }
 }

@@ -14,16 +14,17 @@ use crate::ranking::rows_of;
 use std::thread::Threads;
 use traveller::Run;
 use vertex_names::Names;
-use vertex_partition::{PartRows, first_overflow, split};
+use vertex_partition::{Cuts, PartRows, first_overflow, split};
 use walk_model::limits::{MAX_PATH_ENTRIES, MAX_VERTICES};
 use walk_model::{Edge, Limit, Plan, StartRule, WalkFault, greatest_factor};
 
-/// A graph that is ready to be walked: the names of its vertices, what its walkers do, and its parts in order, each with its rows
-/// and their tables.
+/// A graph that is ready to be walked: the names of its vertices, what its walkers do, where its vertices are cut into parts, and
+/// the parts in order, each with its rows and their tables.
 #[derive(Drop)]
 pub(crate) struct Ready {
     pub names: Names,
     pub run: Run,
+    pub cuts: Cuts,
     pub parts: Vec<PartRows>,
 }
 
@@ -145,5 +146,10 @@ pub(crate) fn make_ready<R: Threads + Sync + AllocGlobal>(
         vertices: names.len(),
         start,
     };
-    Ok(Ready { names, run, parts })
+    Ok(Ready {
+        names,
+        run,
+        cuts,
+        parts,
+    })
 }

@@ -205,10 +205,25 @@ fn words_are_refused(rt: HostRuntime) -> Result<(), Fail> {
         "walk - - --seed 1",
         "walk g p q --seed 1",
         "run g",
+        "make",
+        "make 0 1 0",
+        "make 1 65 0",
+        "make 1 1 0 0",
+        "make 1 1 --seed 0",
         // before a programme and a graph that aren't there
         "walk a b --seed x",
     ] {
         expect_refusal(&rt, words, CYCLE, "length = 3", &[], 2, "error: words\n")?;
+    }
+    Ok(())
+}
+
+/// A made graph is refused before any file is read.
+#[test]
+fn too_many_edges_are_not_made(rt: HostRuntime) -> Result<(), Fail> {
+    let limit = "error: limit: edges\n";
+    for words in ["make 1000000 17 0", "make 262145 64 0", "make 1000000 64 1"] {
+        expect_refusal(&rt, words, CYCLE, "", &[1], 5, limit)?;
     }
     Ok(())
 }

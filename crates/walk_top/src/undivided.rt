@@ -25,7 +25,12 @@ pub(crate) fn make_undivided(ready: Ready) -> Undivided
     requires { length ready.parts.items ≡ 1 }
     ensures { (edges : List Edge) (plan : Settings) (seed : ℕ) → IsReadyFor edges plan seed 1 ready → IsUndividedFor edges plan seed result }
 {
-    let Ready { names, run, parts } = ready;
+    let Ready {
+        names,
+        run,
+        parts,
+        ..
+    } = ready;
     let mut parts = parts;
     let part = parts.remove(0);
     Undivided { names, run, part }

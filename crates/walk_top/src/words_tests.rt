@@ -23,6 +23,7 @@ fn shown(alloc: Global, job: &Words<'_>) -> Result<String, Memory> {
                 w.graph, w.programme, w.seed, w.parts, w.workers
             )?
         }
+        Words::Make(m) => format!(in alloc; "make {} {} {}", m.vertices, m.degree, m.seed)?,
     };
     Ok(text)
 }
@@ -144,6 +145,35 @@ fn other_places_and_options_are_refused(rt: HostRuntime) -> Result<(), Fail> {
             ("walk g p --seed 7 -x", "none"),
             ("walk g p --seed 7 --help", "none"),
             ("walk g p --seed 7 --version", "none"),
+        ],
+    )?;
+    Ok(())
+}
+
+#[test]
+fn make_has_three_places(rt: HostRuntime) -> Result<(), Fail> {
+    expect_jobs(
+        &rt,
+        &[
+            ("make 1 1 0", "make 1 1 0"),
+            (
+                "make 1000000 64 18446744073709551615",
+                "make 1000000 64 18446744073709551615",
+            ),
+            ("make 0003 -- 2 07", "make 3 2 7"),
+            ("make", "none"),
+            ("make 1 1", "none"),
+            ("make 1 1 0 0", "none"),
+            ("make 0 1 0", "none"),
+            ("make 1000001 1 0", "none"),
+            ("make 1 0 0", "none"),
+            ("make 1 65 0", "none"),
+            ("make 1 1 18446744073709551616", "none"),
+            ("make 1 1 --seed 0", "none"),
+            ("make 1 1 --seed=0", "none"),
+            ("make 1 1 0 --parts 4", "none"),
+            ("make x 1 0", "none"),
+            ("make -1 1 0", "none"),
         ],
     )?;
     Ok(())

@@ -30,6 +30,6 @@ returns-clause-ready g c =
     ready-for c.args.plan c.args.edges.items c.args.seed c.args.parts
     c.in-Ok-rows_of.rows c.in-Ok.names c.plan.inside.weighted c.greatest_factor.result c.in-Ok-cuts_between.cuts.cuts
     refl (c.in-Ok.ensures.names ∙ ap vertices_of c.deref.ensures.value) refl refl c.len.ensures.count c.in-Ok-rows_of.ensures
-    c.in-Ok-split.ensures.count c.in-Ok-split.ensures.parts c.in-Ok-cuts_between.ensures.cuts
+    c.in-Ok-split.ensures.count c.in-Ok-split.ensures.parts c.in-Ok-cuts_between.ensures.cuts refl
     c.in-Ok-judge_counts.ensures.rank c.in-Ok-judge_counts.ensures.some (ap (λ p. p.weighted) c.plan.view_is)
     (c.greatest_factor.ensures ∙ ap (λ p. greatest_factor p.rule) c.plan.view_is) c.in-None.ensures
