@@ -1,6 +1,8 @@
 //! Refusals of `walk` by example, and which of two comes first.
 
-use crate::tests::{CYCLE, add_file, answer_on, expect_walk, files_of, programme_of, words_of};
+use crate::tests::{
+    CYCLE, add_file, answer_on, answer_to_failing, expect_walk, files_of, programme_of, words_of,
+};
 use crate::top;
 use shard_core::Item;
 use std::alloc::{AllocError, Global};
@@ -371,24 +373,12 @@ fn writes_fail(rt: HostRuntime) -> Result<(), Fail> {
         assert!(rt; answer.err.bytes.as_slice() == b"error: write\n".as_slice());
     }
     // an error sink that fails changes no status
-    let words = words_of(alloc, &["walk", "g", "p", "--seed", "7"])?;
     let mut files = files_of(alloc, "g", CYCLE, &[], 4096)?;
     add_file(alloc, &mut files, "p", "foo = 1")?;
-    let mut out = MemorySink::new(alloc, 4096, Vec::new(alloc), 4096)?;
-    let mut err = MemorySink::new(alloc, 4096, vec![in alloc; 2]?, 7)?;
-    let mut carrier: InOrder<Item> = InOrder::new(alloc);
-    let status = top(
-        &rt,
-        &words,
-        &mut files,
-        &mut out,
-        &mut err,
-        &mut carrier,
-        &NoGate,
-    );
-    assert!(rt; status == 3);
-    assert!(rt; out.bytes.is_empty());
-    assert!(rt; err.bytes.as_slice() == b"error: ".as_slice());
+    let answer = answer_to_failing(&rt, &words, &mut files)?;
+    assert!(rt; answer.status == 3);
+    assert!(rt; answer.out.bytes.is_empty());
+    assert!(rt; answer.err.bytes.as_slice() == b"error: ".as_slice());
     Ok(())
 }
 

@@ -155,11 +155,7 @@ pub(crate) fn text_of(alloc: Global, lines: &[Line]) -> Result<String, Memory> {
 }
 
 /// The edges of a graph's lines: where it is undirected, the mirror of an edge that is no loop stands after it.
-pub(crate) fn edges_of(
-    alloc: Global,
-    lines: &[Line],
-    undirected: bool,
-) -> Result<Vec<Edge>, Memory> {
+fn edges_of(alloc: Global, lines: &[Line], undirected: bool) -> Result<Vec<Edge>, Memory> {
     let mut edges = Vec::new(alloc);
     for line in lines {
         let (src, dst, weight, kind) = *line;
@@ -210,27 +206,33 @@ pub(crate) fn plain_lines(
     Ok(text)
 }
 
+/// The lines of the walks of a programme on a graph, by the definition.
+pub(crate) fn plain_text<R: Abort + AllocGlobal>(
+    rt: &R,
+    lines: &[Line],
+    programme: &str,
+) -> Result<String, Fail> {
+    let alloc = rt.alloc();
+    let text = programme_of(alloc, programme)?;
+    assert!(rt; text.len() <= 65536);
+    let Ok(plan) = read_plan(alloc, text.as_bytes()) else {
+        return Err(Fail::new("a programme that can't be read"));
+    };
+    let edges = edges_of(alloc, lines, plan.undirected)?;
+    let want = plain_lines(alloc, &edges, &plan, 1000)?;
+    Ok(want)
+}
+
 /// Asserts that a programme's walks of a graph are those of the definition.
 fn expect_plain<R: Abort + Threads + Sync + AllocGlobal>(
     rt: &R,
     lines: &[Line],
     programme: &str,
-) -> Result<(), Memory> {
-    let alloc = rt.alloc();
-    let text = programme_of(alloc, programme)?;
-    assert!(rt; text.len() <= 65536);
-    match read_plan(alloc, text.as_bytes()) {
-        Ok(plan) => {
-            let edges = edges_of(alloc, lines, plan.undirected)?;
-            let want = plain_lines(alloc, &edges, &plan, 1000)?;
-            let graph = text_of(alloc, lines)?;
-            expect_walk(rt, graph.as_str(), programme, 0, want.as_str(), "")
-        }
-        Err(_) => {
-            assert!(rt; false, "{programme}");
-            Ok(())
-        }
-    }
+) -> Result<(), Fail> {
+    let want = plain_text(rt, lines, programme)?;
+    let graph = text_of(rt.alloc(), lines)?;
+    expect_walk(rt, graph.as_str(), programme, 0, want.as_str(), "")?;
+    Ok(())
 }
 
 /// Plans of every rule.
@@ -289,8 +291,18 @@ pub(crate) const PLANS: [&str; 45] = [
     "length = 20; undirected = true; scheme = [0, 1]; restart = '1/3'; stop = '1/20'",
 ];
 
+/// A plan of the table, with so many steps.
+pub(crate) fn shortened(alloc: Global, programme: &str, steps: u32) -> Result<String, Memory> {
+    let rest = match programme.split_once(';') {
+        Some((_, rest)) => rest,
+        None => "",
+    };
+    let text = format!(in alloc; "length = {steps};{rest}")?;
+    Ok(text)
+}
+
 /// The lines of a woven graph of forty vertices with three edges each.
-fn woven(alloc: Global) -> Result<Vec<Line>, Memory> {
+pub(crate) fn woven(alloc: Global) -> Result<Vec<Line>, Memory> {
     let mut lines = Vec::new(alloc);
     for v in 0..40u32 {
         for j in 0..3u32 {

@@ -1,9 +1,8 @@
 //! Walks by several workers: the same bytes, side by side.
 
-use crate::parts_tests::expect_over;
-use crate::tests::{CYCLE, add_file, files_of, programme_of, words_of};
-use crate::top;
-use crate::walk_tests::{PLANS, TANGLE, edges_of, plain_lines, text_of};
+use crate::carried_tests::expect_plain_carried;
+use crate::tests::{Answer, CYCLE, WALKS, add_file, answer_into, files_of, programme_of};
+use crate::walk_tests::{Line, PLANS, plain_lines, shortened};
 use graph_maker::make;
 use shard_core::Item;
 use std::alloc::Global;
@@ -12,42 +11,61 @@ use std::sync::atomic::{AtomicU64, Ordering};
 use std::test::Fail;
 use std::thread;
 use std::thread::Threads;
-use walk_io::MemorySink;
+use walk_io::{MemoryFiles, MemorySink};
 use walk_model::{Edge, Memory};
 use walk_programme::read_plan;
-use walker_mail::{Gate, InOrder, NoGate, Reversed};
+use walker_mail::{Gate, InOrder, NoGate};
 
-/// Asserts that a programme's walks of a graph in three parts, by two workers and by seven, are those of the definition.
-fn expect_plain_walks<R: Abort + Threads + Sync + AllocGlobal>(
+/// A graph of five vertices.
+const FIVE: [Line; 9] = [
+    (3, 8, 2, 0),
+    (8, 70, 3, 1),
+    (70, 900, 1, 0),
+    (900, 12, 4, 1),
+    (12, 3, 2, 0),
+    (3, 70, 5, 1),
+    (70, 3, 1, 0),
+    (900, 8, 6, 1),
+    (8, 8, 2, 0),
+];
+
+/// Asserts that the walks of each plan in three parts are those of the definition, by one worker and by so many.
+fn expect_all_plans<R: Abort + Threads + Sync + AllocGlobal>(
     rt: &R,
-    programme: &str,
+    workers: u32,
 ) -> Result<(), Fail> {
-    let alloc = rt.alloc();
-    let text = programme_of(alloc, programme)?;
-    assert!(rt; text.len() <= 65536);
-    let Ok(plan) = read_plan(alloc, text.as_bytes()) else {
-        return Err(Fail::new("a programme that can't be read"));
-    };
-    let edges = edges_of(alloc, &TANGLE, plan.undirected)?;
-    let want = plain_lines(alloc, &edges, &plan, 1000)?;
-    let graph = text_of(alloc, &TANGLE)?;
-    let (graph, want) = (graph.as_str(), want.as_str());
-    let mut in_order: InOrder<Item> = InOrder::new(alloc);
-    expect_over(rt, graph, programme, (3, 7), want, &mut in_order)?;
-    let mut reversed: Reversed<Item> = Reversed::new(alloc);
-    expect_over(rt, graph, programme, (3, 2), want, &mut reversed)?;
+    for programme in PLANS {
+        let short = shortened(rt.alloc(), programme, 3)?;
+        expect_plain_carried(rt, &FIVE, short.as_str(), &[3], &[workers])?;
+    }
     Ok(())
 }
 
+// Workers meet at each letter that a carrier hands over alone, so each number of them has a test of its own.
+
 #[test]
-fn workers_change_no_byte(rt: HostRuntime) -> Result<(), Fail> {
-    for programme in PLANS {
-        expect_plain_walks(&rt, programme)?;
-    }
-    let walks = "0 1 2 0\n1 2 0 1\n2 0 1 2\n";
-    for many in [(1, 5), (2, 16), (256, 3)] {
-        let mut in_order: InOrder<Item> = InOrder::new(rt.alloc());
-        expect_over(&rt, CYCLE, "length = 3", many, walks, &mut in_order)?;
+fn two_workers_change_no_byte(rt: HostRuntime) -> Result<(), Fail> {
+    expect_all_plans(&rt, 2)
+}
+
+#[test]
+fn three_workers_change_no_byte(rt: HostRuntime) -> Result<(), Fail> {
+    expect_all_plans(&rt, 3)
+}
+
+#[test]
+fn seven_workers_change_no_byte(rt: HostRuntime) -> Result<(), Fail> {
+    expect_all_plans(&rt, 7)
+}
+
+/// More workers than parts, more parts than vertices, and the most of both.
+#[test]
+fn the_most_workers_and_parts(rt: HostRuntime) -> Result<(), Fail> {
+    for programme in [
+        "length = 5; undirected = true; scheme = [0, 1]",
+        "length = 5; undirected = true; retries = 0; p = '1/2'; q = '2'",
+    ] {
+        expect_plain_carried(&rt, &FIVE, programme, &[2, 256], &[5, 16])?;
     }
     Ok(())
 }
@@ -79,6 +97,21 @@ impl Gate for Meeting {
     }
 }
 
+/// The call on words and files through a gate, with room for so many bytes of output.
+fn answer_at<R: Threads + Sync + AllocGlobal, G: Gate + Sync>(
+    rt: &R,
+    words: &[&str],
+    files: &mut MemoryFiles,
+    room: usize,
+    gate: &G,
+) -> Result<Answer, Memory> {
+    let alloc = rt.alloc();
+    let out = MemorySink::new(alloc, room, Vec::new(alloc), 65536)?;
+    let err = MemorySink::new(alloc, 4096, Vec::new(alloc), 4096)?;
+    let mut carrier: InOrder<Item> = InOrder::new(alloc);
+    answer_into(rt, words, files, out, err, &mut carrier, gate)
+}
+
 /// As many workers walk side by side as the words ask for.
 #[test]
 fn workers_walk_side_by_side(rt: HostRuntime) -> Result<(), Fail> {
@@ -89,25 +122,10 @@ fn workers_walk_side_by_side(rt: HostRuntime) -> Result<(), Fail> {
     };
     let mut files = files_of(alloc, "g", CYCLE, &[], 65536)?;
     add_file(alloc, &mut files, "p", "length = 3")?;
-    let words = words_of(
-        alloc,
-        &["walk", "g", "p", "--seed=7", "--parts=2", "--workers=2"],
-    )?;
-    let mut out = MemorySink::new(alloc, 4096, Vec::new(alloc), 4096)?;
-    let mut err = MemorySink::new(alloc, 4096, Vec::new(alloc), 4096)?;
-    let mut carrier: InOrder<Item> = InOrder::new(alloc);
-    let status = top(
-        &rt,
-        &words,
-        &mut files,
-        &mut out,
-        &mut err,
-        &mut carrier,
-        &gate,
-    );
-    let walks = "0 1 2 0\n1 2 0 1\n2 0 1 2\n";
-    assert_eq!(rt; status, 0);
-    assert_eq!(rt; out.bytes.as_slice(), walks.as_bytes());
+    let words = ["walk", "g", "p", "--seed=7", "--parts=2", "--workers=2"];
+    let answer = answer_at(&rt, &words, &mut files, 4096, &gate)?;
+    assert_eq!(rt; answer.status, 0);
+    assert_eq!(rt; answer.out.bytes.as_slice(), WALKS.as_bytes());
     assert_eq!(rt; gate.gave_up.load(Ordering::SeqCst), 0);
     Ok(())
 }
@@ -162,29 +180,16 @@ fn a_realistic_file(rt: HostRuntime) -> Result<(), Fail> {
     let programme = programme_of(alloc, "length = 80; p = '0.5'; q = '2'")?;
     let mut files = files_of(alloc, "g", graph.as_str(), &[], 65536)?;
     add_file(alloc, &mut files, "p", programme.as_str())?;
-    let words = words_of(
-        alloc,
-        &["walk", "g", "p", "--seed=7", "--parts=8", "--workers=4"],
-    )?;
-    let mut out = MemorySink::new(alloc, 262144, Vec::new(alloc), 65536)?;
-    let mut err = MemorySink::new(alloc, 4096, Vec::new(alloc), 4096)?;
-    let mut carrier: InOrder<Item> = InOrder::new(alloc);
-    let status = top(
-        &rt,
-        &words,
-        &mut files,
-        &mut out,
-        &mut err,
-        &mut carrier,
-        &NoGate,
-    );
-    assert_eq!(rt; status, 0);
-    expect_lines(&rt, out.bytes.as_slice(), 500, 81);
+    let words = ["walk", "g", "p", "--seed=7", "--parts=8", "--workers=4"];
+    let answer = answer_at(&rt, &words, &mut files, 262144, &NoGate)?;
+    assert_eq!(rt; answer.status, 0);
+    let out = answer.out.bytes.as_slice();
+    expect_lines(&rt, out, 500, 81);
     assert!(rt; programme.len() <= 65536);
     let Ok(plan) = read_plan(alloc, programme.as_bytes()) else {
         return Err(Fail::new("a programme that can't be read"));
     };
     let want = plain_lines(alloc, &bare(alloc, &edges)?, &plan, 20)?;
-    assert!(rt; out.bytes.as_slice().starts_with(want.as_bytes()));
+    assert!(rt; out.starts_with(want.as_bytes()));
     Ok(())
 }
